@@ -1,0 +1,22 @@
+-- All that `Demands` states, proved.
+use Rattle.cgx_spec.specs.Demands.{Promises}
+use Rattle.cgx_spec.proofs.NumberLaws.{short-back, long-back, short-bytes-back, long-bytes-back, longs-count}
+use Rattle.cgx_spec.proofs.RealAnswers.{real-promises}
+use Rattle.cgx_spec.proofs.Verdicts.{verdicts}
+use Rattle.cgx_spec.proofs.Steps.{reading-law}
+use Rattle.cgx_spec.proofs.Demand3.{demand3}
+use Rattle.cgx_spec.proofs.Agreement.{agreement}
+use Rattle.cgx_spec.proofs.Specimens.{all-hold, drawing-is}
+
+pub promises : Promises
+promises =
+    record {
+      verdicts = verdicts;
+      reading = reading-law;
+      demand3 = demand3;
+      numbers = record { short-back = short-back; long-back = long-back; short-bytes = short-bytes-back; long-bytes = long-bytes-back; longs-count = longs-count };
+      reals = real-promises;
+      agreement = agreement;
+      specimens = all-hold;
+      drawing = drawing-is;
+    }

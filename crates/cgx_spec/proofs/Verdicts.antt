@@ -1,0 +1,113 @@
+-- Every file is accepted or refused with a number from 1 to 13: the walk has steps enough.
+use mathlib.Core.Bool.{Bool, true, false, _&&_, _||_, cond}
+use mathlib.Core.List.{List, [], _∷_}
+use mathlib.Core.Option.{Option, none, some}
+use Prim.Native.Nat.{ℕ, zero, suc, _+_, _*_, _%_, _-_, _≤_, _<_}
+use native.Mathlib.Omega.{arith}
+use lib.Dec.{ltb, eqb}
+use lib.ListN.{length, take, drop, length-drop}
+use Rattle.cgx_spec.specs.declared.Kind.{Kind}
+use Rattle.cgx_spec.specs.declared.Context.{Context}
+use Rattle.cgx_spec.specs.declared.Verdict.the-variants.{Refused as refused}
+use Rattle.cgx_spec.specs.Numbers.{number}
+use Rattle.cgx_spec.specs.Kinds.{kindOf}
+use Rattle.cgx_spec.specs.Order.{start, allowed}
+use Rattle.cgx_spec.specs.Records.{Rec, size, Rule, broken, rules, faultOf, contextAfter}
+use Rattle.cgx_spec.specs.Files.{Cut, bad, found, cutBody, cut, Step, stop, go, settle, judge, finish, step, walk, begin, walkOf, verdictOf}
+use Rattle.cgx_spec.specs.Demands.{Named, Verdicts}
+
+-- ---- a record
+
+abbrev NamedRule : Option ℕ → Type 0
+NamedRule none = Unit {0}
+NamedRule (some n) = (1 ≤ n) × (n ≤ 13)
+
+abbrev NamedRules : List Rule → Type 0
+NamedRules [] = Unit {0}
+NamedRules (r ∷ rs) = (1 ≤ r .number) × (r .number ≤ 13) × NamedRules rs
+
+broken-named : (rs : List Rule) → NamedRules rs → NamedRule (broken rs)
+unfolding broken
+broken-named [] h = tt
+broken-named (r ∷ rs) h = go (r .kept) (broken-named rs (h .2))
+  where
+    go : (z : Bool) → NamedRule (broken rs) → NamedRule (cond z (broken rs) (some (r .number)))
+    go true ih = ih
+    go false ih = (h .0, h .1)
+
+rules-named : (here : Bool) (o : Option Kind) (r : Rec) → NamedRules (rules here o r)
+unfolding rules
+rules-named here none r = omega arith
+rules-named here (some k) r = omega arith
+
+-- ---- a step
+
+abbrev CutNamed : List ℕ → Cut → Type 0
+CutNamed bs (bad n) = (1 ≤ n) × (n ≤ 13)
+CutNamed bs (found r rest) = length rest < length bs
+
+cut-named : (bs : List ℕ) → CutNamed bs (cut bs)
+unfolding cut cutBody
+cut-named [] = omega arith
+cut-named (a ∷ []) = omega arith
+cut-named (a ∷ b ∷ []) = omega arith
+cut-named (a ∷ b ∷ t ∷ []) = omega arith
+cut-named (a ∷ b ∷ t ∷ fl ∷ bs) = go (a * 256 + b) (eqb ((a * 256 + b) % 2) 1 || ltb (a * 256 + b) 4) (ltb (length bs) (a * 256 + b - 4))
+  where
+    go : (n : ℕ) (y z : Bool) → CutNamed (a ∷ b ∷ t ∷ fl ∷ bs) (cond y (bad 5) (cond z (bad 4) (found (record { type = t; flags = fl; body = take (n - 4) bs }) (drop (n - 4) bs))))
+    go n true z = omega arith
+    go n false true = omega arith
+    go n false false = omega (arith, length-drop (n - 4) bs)
+
+abbrev pub StepNamed : List ℕ → Step → Type 0
+StepNamed bs (stop v) = Named v
+StepNamed bs (go p rest) = length rest < length bs
+
+pub step-named : (c : Context) (at : ℕ) (bs : List ℕ) → StepNamed bs (step c at bs)
+unfolding step judge settle finish
+step-named c at bs = one (c .ended) bs (cut bs) (cut-named bs)
+  where
+    three : (bs : List ℕ) (r : Rec) (rest : List ℕ) → length rest < length bs → (o : Option ℕ) → NamedRule o → StepNamed bs (settle c at r rest o)
+    three bs r rest h none n = h
+    three bs r rest h (some m) n = n
+
+    two : (bs : List ℕ) (x : Cut) → CutNamed bs x → StepNamed bs (judge c at x)
+    two bs (bad n) h = h
+    two bs (found r rest) h = three bs r rest h (faultOf c r) (broken-named (rules (allowed c (kindOf (r .type))) (kindOf (r .type)) r) (rules-named (allowed c (kindOf (r .type))) (kindOf (r .type)) r))
+
+    end : (bs : List ℕ) → Named (finish at bs)
+    end [] = tt
+    end (b ∷ bs) = omega arith
+
+    one : (z : Bool) (bs : List ℕ) (x : Cut) → CutNamed bs x → StepNamed bs (cond z (stop (finish at bs)) (judge c at x))
+    one true bs x h = end bs
+    one false bs x h = two bs x h
+
+-- ---- a walk
+
+walk-named : (k : ℕ) (bs : List ℕ) (st : Step) → StepNamed bs st → length bs ≤ k → Named (walk k st .verdict)
+unfolding walk
+walk-named zero bs (stop v) h l = h
+walk-named (suc k) bs (stop v) h l = h
+walk-named zero bs (go p rest) h l = absurd (omega arith)
+walk-named (suc k) bs (go p rest) h l =
+    walk-named k rest (step (contextAfter p) (p .at + size (p .rec)) rest) (step-named (contextAfter p) (p .at + size (p .rec)) rest) (omega arith)
+
+begin-named : (f : List ℕ) → Named (verdictOf f)
+unfolding verdictOf walkOf begin
+begin-named [] = walk-named 0 [] (stop (refused 1 0)) (omega arith) (omega arith)
+begin-named (a ∷ []) = walk-named 1 [] (stop (refused 1 0)) (omega arith) (omega arith)
+begin-named (a ∷ b ∷ []) = walk-named 2 [] (stop (refused 1 0)) (omega arith) (omega arith)
+begin-named (a ∷ b ∷ c ∷ []) = walk-named 3 [] (stop (refused 1 0)) (omega arith) (omega arith)
+begin-named (a ∷ b ∷ c ∷ l ∷ bs) = go (eqb a 99 && eqb b 103 && eqb c 120) (eqb l 0)
+  where
+    n : ℕ
+    n = suc (suc (suc (suc (length bs))))
+
+    go : (y z : Bool) → Named (walk n (cond y (cond z (step start 4 bs) (stop (refused 2 0))) (stop (refused 1 0))) .verdict)
+    go true true = walk-named n bs (step start 4 bs) (step-named start 4 bs) (omega arith)
+    go true false = walk-named n bs (stop (refused 2 0)) (omega arith) (omega arith)
+    go false z = walk-named n bs (stop (refused 1 0)) (omega arith) (omega arith)
+
+pub verdicts : Verdicts
+verdicts = record { named = begin-named }

@@ -1,0 +1,128 @@
+-- What is proved of the definitions: start here. Each field is one sentence of the papers, in the order 1 to 3 of the demands; `Promises` holds them all, and
+-- proofs/Promises.antt proves it. Statements only.
+use mathlib.Core.Path.{_≡_}
+use mathlib.Core.Logic.{_↔_}
+use mathlib.Core.Bool.{Bool, true}
+use mathlib.Core.List.{List, [], _∷_, _++_}
+use mathlib.Core.Option.{none, some}
+use Prim.Native.Nat.{ℕ, _/_, _%_, _^_, _≤_, _<_}
+use lib.Count.{trailingZeros}
+use lib.Dec.{T, leb}
+use lib.Ieee.{Float, fin, binary64, fits}
+use lib.IntN.{ℤ, pos}
+use lib.ListN.{length, getElem?}
+use Rattle.cgx_spec.specs.declared.Kind.{Kind}
+use Rattle.cgx_spec.specs.declared.Verdict.{Verdict}
+use Rattle.cgx_spec.specs.declared.Verdict.the-variants.{Accepted as accepted, Refused as refused}
+use Rattle.cgx_spec.specs.declared.Real.the-variants.{Exact, Inexact}
+use Rattle.cgx_spec.specs.Numbers.{Bytes, shortOf, longOf, longsOf, InRange, shortBytes, longBytes}
+use Rattle.cgx_spec.specs.Reals.{negative, exponent, mantissa, value, normal, IsNormal, answer, Means}
+use Rattle.cgx_spec.specs.Strings.{textOf, goodString}
+use Rattle.cgx_spec.specs.Fields.{join, lengthsFit}
+use Rattle.cgx_spec.specs.Kinds.{kindOf, goodFlags, flagsOf}
+use Rattle.cgx_spec.specs.Order.{start}
+use Rattle.cgx_spec.specs.Records.{Rec, size, bytesOf, piecesOf, Placed}
+use Rattle.cgx_spec.specs.Files.{header, walkOf, verdictOf, Accepted, recordsOf, known, sequence, meanings, SameMeaning, normals, normalForm, viewsOf}
+use Rattle.cgx_spec.specs.Walking.{firstPlace, ending, stepOf, reads}
+use Rattle.cgx_spec.specs.Written.{GoodFrom, placeAll, AddedTo}
+use Rattle.cgx_spec.specs.Restated.{typeByte, goodSize, highestFlags, FlagsAlike, IsString, Behind, lookBack}
+use Rattle.cgx_spec.specs.Specimens.{Holds, All, specimens, Drawing}
+
+-- ---- demand 1: every file gets an answer
+
+abbrev pub Named : Verdict → Type 0
+Named accepted = Unit {0}
+Named (refused n p) = (1 ≤ n) × (n ≤ 13)
+
+pub record Verdicts : Type 0 where
+  -- Every file is accepted, or refused with a number from 1 to 13.
+  pub named : (f : List ℕ) → Named (verdictOf f)
+
+-- ---- demand 2: what is read, and read back
+
+pub record Reading : Type 0 where
+  -- An accepted file is its first four bytes and the bytes of its records, one after another.
+  pub whole : (f : List ℕ) → Bytes f → Accepted f → f ≡ header ++ join bytesOf (recordsOf f)
+  -- Offsets and contexts are those that the records have one after another.
+  pub places : (f : List ℕ) → Bytes f → Accepted f → walkOf f .records ≡ placeAll start 4 (recordsOf f)
+  -- Step after step from the start gives exactly the views of the known records and then the verdict, for every file that begins well.
+  pub steps : (bs : List ℕ) → let f = header ++ bs in reads (length f) f (stepOf f firstPlace) ≡ record { views = viewsOf f; last = ending (verdictOf f) }
+  -- Good records in an allowed order, written in normal form, make an accepted file of those records and their meaning.
+  pub back : (rs : List Rec) → GoodFrom start 4 rs → let f = header ++ join bytesOf (normals (known rs)) in Accepted f × (recordsOf f ≡ normals (known rs)) × (meanings (sequence f) ≡ meanings (known rs))
+
+-- ---- demand 3: one normal form
+
+pub record Demand3 : Type 0 where
+  -- "Every accepted file has one normal form, accepted"
+  pub form-accepted : (f : List ℕ) → Bytes f → Accepted f → Accepted (normalForm f)
+  -- "and of the same meaning;"
+  pub form-means : (f : List ℕ) → Bytes f → Accepted f → SameMeaning (normalForm f) f
+  -- "two accepted files mean the same exactly when their normal forms are equal byte for byte;"
+  pub form-unique : (f g : List ℕ) → Bytes f → Bytes g → Accepted f → Accepted g → SameMeaning f g ↔ (normalForm f ≡ normalForm g)
+  -- "it is idempotent;"
+  pub form-again : (f : List ℕ) → Bytes f → Accepted f → normalForm (normalForm f) ≡ normalForm f
+  -- "added unknown records change neither acceptance nor normal form."
+  pub form-added : (f g : List ℕ) → Bytes f → Accepted f → AddedTo f g → Accepted g × (normalForm g ≡ normalForm f)
+
+-- ---- the numbers under it all
+
+pub record NumberPromises : Type 0 where
+  -- Shorts and longs are read back as written, from −1 to the lowest number, and written as they were read.
+  pub short-back : (z : ℤ) → InRange (2 ^ 15) z → shortOf (shortBytes z) ≡ z
+  pub long-back : (z : ℤ) → InRange (2 ^ 31) z → longOf (longBytes z) ≡ z
+  pub short-bytes : (b : List ℕ) → Bytes b → length b ≡ 2 → shortBytes (shortOf b) ≡ b
+  pub long-bytes : (b : List ℕ) → Bytes b → length b ≡ 4 → longBytes (longOf b) ≡ b
+  -- As many longs are read as stand there.
+  pub longs-count : (b : List ℕ) → length (longsOf b) ≡ length b / 4
+
+pub record RealPromises : Type 0 where
+  -- The normal real is normal, of the same value, and the only one so.
+  pub normal-is : (w : ℕ) → IsNormal (normal w)
+  pub normal-value : (w : ℕ) → value (normal w) ≡ value w
+  pub normal-only : (w v : ℕ) → v < 2 ^ 64 → IsNormal v → value v ≡ value w → v ≡ normal w
+  -- An Exact answer's double has exactly the real's value, and is not −0.
+  pub exact-means : (w : ℕ) (x : Float) → answer w ≡ Exact x → T (fits binary64 x) × Means x (value w) × (x ≡ fin true 0 (pos 0) → ⊥)
+  -- Exact precisely when m without its trailing zero bits is below 2^53,
+  pub exact-when : (w : ℕ) → ((x : Float) × (answer w ≡ Exact x)) ↔ (mantissa w / 2 ^ trailingZeros 64 (mantissa w) < 2 ^ 53)
+  -- and precisely when some double has that value.
+  pub exact-some : (w : ℕ) → ((x : Float) × (answer w ≡ Exact x)) ↔ ((x : Float) × T (fits binary64 x) × Means x (value w))
+  -- Inexact keeps sign, e and m.
+  pub inexact-keeps : (w : ℕ) (s : Bool) (e m : ℕ) → answer w ≡ Inexact s e m → (s ≡ negative w) × (e ≡ exponent w) × (m ≡ mantissa w)
+
+-- ---- the definitions agree with 01 stated a second time
+
+-- Each context is what looking back at the known records behind it says.
+abbrev pub LooksBack : List Behind → List Placed → Type 0
+LooksBack bs [] = Unit {0}
+LooksBack bs (p ∷ ps) =
+    (p .context ≡ lookBack bs) × LooksBack (elim (kindOf (p .rec .type)) [ none ↦ bs | some k ↦ record { kind = k; at = p .at } ∷ bs ]) ps
+
+pub record Agreement : Type 0 where
+  -- The kinds are those of 01's type bytes, and no other type has one.
+  pub types : (k : Kind) → kindOf (typeByte k) ≡ some k
+  pub unknown : (t : ℕ) → 11 ≤ t → kindOf t ≡ none
+  -- The fields of a record fit exactly when its size is one that 01 gives for its kind.
+  pub sizes : (k : Kind) (r : Rec) → length (r .body) % 2 ≡ 0 → length (r .body) ≤ 65530 → lengthsFit (piecesOf k r) ≡ goodSize k (r .flags) (size r)
+  -- Flags are allowed up to 01's highest, and are alike where 01 says so.
+  pub flags : (k : Kind) (fl : ℕ) → fl < 256 → goodFlags k fl ≡ leb fl (highestFlags k)
+  pub flags-alike : (k : Kind) (x y : ℕ) → x < 256 → y < 256 → (flagsOf k x ≡ flagsOf k y) ↔ FlagsAlike k x y
+  -- A field is a string exactly when it is a text without zero bytes and its padding, and then that is its text.
+  pub strings : (b : List ℕ) → (goodString b ≡ true) ↔ IsString b (textOf b)
+  pub texts : (b t : List ℕ) → IsString b t → textOf b ≡ t
+  -- The context of every record, in every file, is what the records behind it say.
+  pub contexts : (f : List ℕ) → LooksBack [] (walkOf f .records)
+  -- Same meaning is "equally many records and, for every k," the same meaning of the k-th.
+  pub each : (f g : List ℕ) → let ms = meanings (sequence f) in let ns = meanings (sequence g) in SameMeaning f g ↔ ((length ms ≡ length ns) × ((k : ℕ) → getElem? ms k ≡ getElem? ns k))
+
+-- ---- all of it
+
+pub record Promises : Type 0 where
+  pub verdicts : Verdicts
+  pub reading : Reading
+  pub demand3 : Demand3
+  pub numbers : NumberPromises
+  pub reals : RealPromises
+  pub agreement : Agreement
+  -- 01's specimens marked P, and its file of 96 bytes.
+  pub specimens : All Holds specimens
+  pub drawing : Drawing

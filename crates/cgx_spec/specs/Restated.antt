@@ -1,0 +1,189 @@
+-- 01's figures and rules stated a second time, from its words alone and not from the definitions; `Demands` says that the two agree. Definitions only.
+use mathlib.Core.Path.{_≡_}
+use mathlib.Core.Bool.{Bool, true, false, _&&_, _||_, cond}
+use mathlib.Core.List.{List, [], _∷_, _++_}
+use Prim.Native.Nat.{ℕ, zero, _+_, _*_, _/_, _%_, _-_, _^_, _<_}
+use lib.Dec.{leb, eqb}
+use lib.ListN.{length, getD}
+use Rattle.cgx_spec.specs.declared.Kind.{Kind}
+use Rattle.cgx_spec.specs.declared.Kind.the-variants.{Library, Struct, Cprpty, Property, Layer, Box, Poly, Wire, Text, Sref, Endlib}
+use Rattle.cgx_spec.specs.declared.Offset.{Offset}
+use Rattle.cgx_spec.specs.declared.Offset.the-variants.{Nowhere, At}
+use Rattle.cgx_spec.specs.declared.Run.{Run}
+use Rattle.cgx_spec.specs.declared.Run.the-variants.{Empty, Of}
+use Rattle.cgx_spec.specs.declared.Context.{Context}
+
+-- ---- the table's columns
+
+-- "type"
+unfoldable pub typeByte : Kind → ℕ
+typeByte Library = 0
+typeByte Struct = 1
+typeByte Cprpty = 2
+typeByte Property = 3
+typeByte Layer = 4
+typeByte Box = 5
+typeByte Poly = 6
+typeByte Wire = 7
+typeByte Text = 8
+typeByte Sref = 9
+typeByte Endlib = 10
+
+-- From lo to hi things of u bytes each, behind `base` bytes.
+abbrev pub repeated : ℕ → ℕ → ℕ → ℕ → ℕ → Bool
+repeated base u lo hi n = leb (base + u * lo) n && leb n (base + u * hi) && eqb ((n - base) % u) 0
+
+-- "further rules" on the size n, of which it is known that it is even and from 4 to 65,534.
+unfoldable pub goodSize : Kind → ℕ → ℕ → Bool
+goodSize Library fl n = leb 38 n
+goodSize Struct fl n = leb 22 n
+goodSize Cprpty fl n = leb 10 n
+goodSize Property fl n = leb 10 n
+goodSize Layer fl n = leb 8 n
+-- "1 to 4,095 boxes"
+goodSize Box fl n = repeated 4 16 1 4095 n
+-- "4 to 8,191 pairs"
+goodSize Poly fl n = repeated 4 8 4 8191 n
+-- "1 to 8,190 pairs", behind the width
+goodSize Wire fl n = repeated 8 8 1 8190 n
+goodSize Text fl n = leb 18 n
+-- "string ≥ 2 bytes", behind x and y, and 8 bytes for an angle (flag 1), 8 for a magnif (2), 24 for an array (8)
+goodSize Sref fl n =
+    leb (4 + 8 + cond (eqb (fl % 2) 1) 8 0 + cond (eqb (fl / 2 % 2) 1) 8 0 + cond (eqb (fl / 8 % 2) 1) 24 0 + 2) n
+-- "size 4"
+goodSize Endlib fl n = eqb n 4
+
+-- "flags 0 to 2", "flags 0 to 15"; else any byte.
+unfoldable pub highestFlags : Kind → ℕ
+highestFlags Library = 255
+highestFlags Struct = 255
+highestFlags Cprpty = 255
+highestFlags Property = 255
+highestFlags Layer = 255
+highestFlags Box = 255
+highestFlags Poly = 255
+highestFlags Wire = 2
+highestFlags Text = 255
+highestFlags Sref = 15
+highestFlags Endlib = 255
+
+-- ---- what flags mean
+
+abbrev pub bit : ℕ → ℕ → Bool
+bit n fl = eqb (fl / 2 ^ n % 2) 1
+
+-- Where a TEXT stands of its anchor (001's left, center, right; bottom, center, top).
+pub data Side : Type 0 where
+  low : Side
+  middle : Side
+  high : Side
+
+-- By the high and the low bit: "0 and 3 mean the same".
+unfoldable pub side : Bool → Bool → Side
+side false false = low
+side false true = middle
+side true false = high
+side true true = low
+
+-- "bits 0–1 quarter turns, bit 2 mirror, bit 3 adds 45 degrees, bits 4–5 horizontal and 6–7 vertical place"
+pub record Orientation : Type 0 where
+  pub turns : ℕ
+  pub mirror : Bool
+  pub eighth : Bool
+  pub horizontal : Side
+  pub vertical : Side
+
+unfoldable pub orientationOf : ℕ → Orientation
+orientationOf fl =
+    record {
+      turns = fl % 4;
+      mirror = bit 2 fl;
+      eighth = bit 3 fl;
+      horizontal = side (bit 5 fl) (bit 4 fl);
+      vertical = side (bit 7 fl) (bit 6 fl);
+    }
+
+-- Two flags bytes that mean the same: "Flags of the other kinds mean nothing".
+abbrev pub FlagsAlike : Kind → ℕ → ℕ → Type 0
+FlagsAlike Library x y = x ≡ y
+FlagsAlike Struct x y = Unit {0}
+FlagsAlike Cprpty x y = Unit {0}
+FlagsAlike Property x y = Unit {0}
+FlagsAlike Layer x y = Unit {0}
+FlagsAlike Box x y = Unit {0}
+FlagsAlike Poly x y = Unit {0}
+FlagsAlike Wire x y = x ≡ y
+FlagsAlike Text x y = orientationOf x ≡ orientationOf y
+FlagsAlike Sref x y = x ≡ y
+FlagsAlike Endlib x y = Unit {0}
+
+-- ---- strings
+
+abbrev pub NoZero : List ℕ → Type 0
+NoZero t = (i : ℕ) → i < length t → getD t i 0 ≡ 0 → ⊥
+
+-- "One zero byte follows an odd-length text, two follow an even-length text."
+abbrev pub zerosAfter : List ℕ → List ℕ
+zerosAfter t = cond (eqb (length t % 2) 1) (0 ∷ []) (0 ∷ 0 ∷ [])
+
+-- The field b is a string, and t its text.
+pub record IsString (b t : List ℕ) : Type 0 where
+  pub no-zero : NoZero t
+  pub is : b ≡ t ++ zerosAfter t
+
+-- ---- the context, by looking back at the known records already read, nearest first
+
+pub record Behind : Type 0 where
+  pub kind : Kind
+  pub at : ℕ
+
+abbrev pub is : Kind → Behind → Bool
+is k b = eqb (typeByte k) (typeByte (b .kind))
+
+unfoldable pub libraryBehind : List Behind → Bool
+libraryBehind [] = false
+libraryBehind (b ∷ bs) = is Library b || libraryBehind bs
+
+-- The nearest STRUCT.
+unfoldable pub cellBehind : List Behind → Offset
+cellBehind [] = Nowhere
+cellBehind (b ∷ bs) = cond (is Struct b) (At (b .at)) (cond (is Library b) Nowhere (cellBehind bs))
+
+-- The nearest LAYER, unless a STRUCT is nearer.
+unfoldable pub layerBehind : List Behind → Offset
+layerBehind [] = Nowhere
+layerBehind (b ∷ bs) = cond (is Layer b) (At (b .at)) (cond (is Struct b || is Library b) Nowhere (layerBehind bs))
+
+-- STRUCT, with nothing but CPRPTY nearer.
+unfoldable pub structBehind : List Behind → Bool
+structBehind [] = false
+structBehind (b ∷ bs) = is Struct b || (is Cprpty b && structBehind bs)
+
+-- The PROPERTY records with nothing nearer.
+unfoldable pub propertiesBehind : List Behind → List Behind
+propertiesBehind [] = []
+propertiesBehind (b ∷ bs) = cond (is Property b) (b ∷ propertiesBehind bs) []
+
+-- The offset of the farthest of them.
+unfoldable pub farthest : Behind → List Behind → ℕ
+farthest b [] = b .at
+farthest b (c ∷ bs) = farthest c bs
+
+unfoldable pub runBehind : List Behind → Run
+runBehind [] = Empty
+runBehind (b ∷ bs) = Of (farthest b bs) (length (b ∷ bs))
+
+unfoldable pub endBehind : List Behind → Bool
+endBehind [] = false
+endBehind (b ∷ bs) = is Endlib b
+
+unfoldable pub lookBack : List Behind → Context
+lookBack bs =
+    record {
+      library = libraryBehind bs;
+      cell = cellBehind bs;
+      layer = layerBehind bs;
+      fresh = structBehind bs;
+      run = runBehind (propertiesBehind bs);
+      ended = endBehind bs;
+    }
