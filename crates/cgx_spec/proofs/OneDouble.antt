@@ -61,14 +61,14 @@ abs-mul : (v : ℤ) (k : ℕ) → natAbs (v *ℤ pos k) ≡ natAbs v * k
 abs-mul (pos a) k = refl
 abs-mul (negsuc a) k = abs-signed true (suc a * k)
 
-size-of : (s : Bool) (m : ℕ) (e : ℤ) (v : ℤ) → Means (fin s m e) v → m * up e * 2 ^ 312 ≡ natAbs v * down e
+pub size-of : (s : Bool) (m : ℕ) (e : ℤ) (v : ℤ) → Means (fin s m e) v → m * up e * 2 ^ 312 ≡ natAbs v * down e
 size-of s m e v h = sym (abs-signed s (m * up e * 2 ^ 312)) ∙ ap natAbs h ∙ abs-mul v (down e)
 
-abbrev isNeg : ℤ → Bool
+abbrev pub isNeg : ℤ → Bool
 isNeg (pos a) = false
 isNeg (negsuc a) = true
 
-sign-of : (s : Bool) (a : ℕ) (v : ℤ) (k : ℕ) → 0 < a → signed s a ≡ v *ℤ pos k → s ≡ isNeg v
+pub sign-of : (s : Bool) (a : ℕ) (v : ℤ) (k : ℕ) → 0 < a → signed s a ≡ v *ℤ pos k → s ≡ isNeg v
 sign-of false a (pos n) k h e = refl
 sign-of true zero (pos n) k h e = absurd (lt-irrefl 0 h)
 sign-of true (suc a) (pos n) k h e = absurd (pos-ne-negsuc (n * k) a (sym e))

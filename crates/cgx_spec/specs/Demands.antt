@@ -16,7 +16,7 @@ use Rattle.cgx_spec.specs.declared.Verdict.{Verdict}
 use Rattle.cgx_spec.specs.declared.Verdict.the-variants.{Accepted as accepted, Refused as refused}
 use Rattle.cgx_spec.specs.declared.Real.the-variants.{Exact, Inexact}
 use Rattle.cgx_spec.specs.Numbers.{Bytes, shortOf, longOf, longsOf, InRange, shortBytes, longBytes}
-use Rattle.cgx_spec.specs.Reals.{negative, exponent, mantissa, value, normal, IsNormal, answer, Means}
+use Rattle.cgx_spec.specs.Reals.{negative, exponent, mantissa, value, normal, IsNormal, answer, Means, answerValue}
 use Rattle.cgx_spec.specs.Strings.{textOf, goodString}
 use Rattle.cgx_spec.specs.Fields.{join, lengthsFit}
 use Rattle.cgx_spec.specs.Kinds.{kindOf, goodFlags, flagsOf}
@@ -86,7 +86,9 @@ pub record RealPromises : Type 0 where
   pub exact-when : (w : ℕ) → ((x : Float) × (answer w ≡ Exact x)) ↔ (mantissa w / 2 ^ trailingZeros 64 (mantissa w) < 2 ^ 53)
   -- and precisely when some double has that value.
   pub exact-some : (w : ℕ) → ((x : Float) × (answer w ≡ Exact x)) ↔ ((x : Float) × T (fits binary64 x) × Means x (value w))
-  -- Inexact keeps sign, e and m.
+  -- Either answer stands for the real's value,
+  pub answer-value : (w : ℕ) → answerValue (answer w) ≡ value w
+  -- and Inexact keeps sign, e and m.
   pub inexact-keeps : (w : ℕ) (s : Bool) (e m : ℕ) → answer w ≡ Inexact s e m → (s ≡ negative w) × (e ≡ exponent w) × (m ≡ mantissa w)
 
 -- ---- the definitions agree with 01 stated a second time

@@ -81,6 +81,16 @@ Means nan v = ⊥
 Means (inf s) v = ⊥
 Means (fin s n d) v = signed s (n * up d * 2 ^ 312) ≡ v *ℤ pos (down d)
 
+-- The value that an answer stands for.
+unfoldable pub floatValue : Float → ℤ
+floatValue nan = pos 0
+floatValue (inf s) = pos 0
+floatValue (fin s n d) = signed s (n * up d * 2 ^ 312 / down d)
+
+unfoldable pub answerValue : Real → ℤ
+answerValue (Exact x) = floatValue x
+answerValue (Inexact s e m) = signed s (m * 16 ^ e)
+
 -- ---- of eight bytes
 
 unfoldable pub realOf : List ℕ → ℤ

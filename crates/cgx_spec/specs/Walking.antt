@@ -1,10 +1,11 @@
 -- 01, "Walking, writing, normal form": places, forged places, and a walk one known record at a time. Definitions only.
+use mathlib.Core.Path.{_≡_}
 use mathlib.Core.Bool.{Bool, true, not, _&&_, cond}
 use mathlib.Core.List.{List, [], _∷_}
 use mathlib.Core.Option.{none, some}
-use Prim.Native.Nat.{ℕ, zero, suc, _+_, _%_}
+use Prim.Native.Nat.{ℕ, zero, suc, _+_, _-_, _%_, _≤_, _<_}
 use lib.Dec.{leb, eqb}
-use lib.ListN.{length, drop}
+use lib.ListN.{length, take, drop, getD}
 use Rattle.cgx_spec.specs.declared.Offset.{Offset}
 use Rattle.cgx_spec.specs.declared.Offset.the-variants.{Nowhere, At}
 use Rattle.cgx_spec.specs.declared.Run.{Run}
@@ -15,7 +16,7 @@ use Rattle.cgx_spec.specs.declared.Verdict.{Verdict}
 use Rattle.cgx_spec.specs.declared.Verdict.the-variants.{Accepted as accepted, Refused as refused}
 use Rattle.cgx_spec.specs.Kinds.{kindOf}
 use Rattle.cgx_spec.specs.Order.{start}
-use Rattle.cgx_spec.specs.Records.{size, Placed, contextAfter, View, viewOf}
+use Rattle.cgx_spec.specs.Records.{Rec, size, Placed, contextAfter, View, viewOf}
 use Rattle.cgx_spec.specs.Files.{Step, stop, go, step, Walk, walk}
 
 -- ---- places
@@ -83,6 +84,19 @@ reads zero f (refusedAt m p) = record { views = []; last = refusedAt m p }
 reads (suc n) f (refusedAt m p) = record { views = []; last = refusedAt m p }
 reads zero f (seen v p) = record { views = []; last = refusedAt 0 Nowhere }
 reads (suc n) f (seen v p) = andThen v (reads n f (stepOf f p))
+
+-- ---- a record by its offset and size
+
+-- The record of n bytes at an offset.
+unfoldable pub recAt : List ℕ → ℕ → ℕ → Rec
+recAt f at n = record { type = getD f (at + 2) 0; flags = getD f (at + 3) 0; body = take (n - 4) (drop (at + 4) f) }
+
+-- The file holds n bytes from an offset on, and n is a size that a record may have.
+pub record Held (f : List ℕ) (at n : ℕ) : Type 0 where
+  pub least : 4 ≤ n
+  pub most : n < 65536
+  pub even : n % 2 ≡ 0
+  pub inside : at + n ≤ length f
 
 -- ---- the rest of a file
 

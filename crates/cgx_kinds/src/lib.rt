@@ -1,0 +1,202 @@
+// The kinds of record as a reader gives them: the typed fields of each, and its limits as named constants.
+use cgx_spec::Kind;
+use cgx_spec::Offset;
+use cgx_spec::Real;
+use cgx_spec::Run;
+
+// ---- what fields are made of
+
+// The text of a string, a part of the file.
+pub struct Span {
+    pub at: usize,
+    pub len: usize,
+}
+
+pub enum Name {
+    Absent,
+    Present(Span),
+}
+
+pub struct Date {
+    pub year: i16,
+    pub month: u8,
+    pub day: u8,
+    pub hour: u8,
+    pub minute: u8,
+    pub second: u8,
+}
+
+// Readers have confused the two: each is a number of its own kind.
+pub struct LayerNo(pub i16);
+
+pub struct DataType(pub i16);
+
+pub struct Point {
+    pub x: i32,
+    pub y: i32,
+}
+
+// Boxes or points, one after another in the file: the offset of the first, and how many.
+pub struct Repeat {
+    pub first: usize,
+    pub count: usize,
+}
+
+pub enum OptionalReal {
+    Missing,
+    Given(Real),
+}
+
+// An SREF without ARRAY, or its columns, rows and two points.
+pub enum Array {
+    Single,
+    Of {
+        cols: i32,
+        rows: i32,
+        across: Point,
+        up: Point,
+    },
+}
+
+// ---- the eleven kinds
+
+pub struct Library {
+    pub munit: Real,
+    pub uunit: Real,
+    pub created: Date,
+    pub modified: Date,
+    pub name: Span,
+}
+
+pub struct Struct {
+    pub created: Date,
+    pub modified: Date,
+    pub name: Span,
+}
+
+pub struct Cprpty {
+    pub number: i32,
+    pub value: Span,
+}
+
+pub struct Property {
+    pub number: i32,
+    pub value: Span,
+}
+
+pub struct Layer {
+    pub number: LayerNo,
+    pub datatype: DataType,
+    pub name: Name,
+}
+
+pub struct Boxes {
+    pub boxes: Repeat,
+}
+
+pub struct Poly {
+    pub points: Repeat,
+}
+
+pub struct Wire {
+    pub width: i32,
+    pub points: Repeat,
+}
+
+pub struct Text {
+    pub at: Point,
+    pub width: i32,
+    pub label: Span,
+}
+
+pub struct Sref {
+    pub at: Point,
+    pub angle: OptionalReal,
+    pub magnif: OptionalReal,
+    pub array: Array,
+    pub name: Span,
+}
+
+pub enum Fields {
+    Library(Library),
+    Struct(Struct),
+    Cprpty(Cprpty),
+    Property(Property),
+    Layer(Layer),
+    Box(Boxes),
+    Poly(Poly),
+    Wire(Wire),
+    Text(Text),
+    Sref(Sref),
+    Endlib,
+}
+
+// A record as a walk gives it, with the offsets of its STRUCT and LAYER, and the run of properties that it takes.
+pub struct View {
+    pub kind: Kind,
+    pub flags: u8,
+    pub fields: Fields,
+    pub at: usize,
+    pub cell: Offset,
+    pub layer: Offset,
+    pub run: Run,
+}
+
+// ---- limits: sizes include the four bytes of the header
+
+impl Library {
+    pub const MIN_SIZE: usize = 38;
+}
+
+impl Struct {
+    pub const MIN_SIZE: usize = 22;
+}
+
+impl Cprpty {
+    pub const MIN_SIZE: usize = 10;
+}
+
+impl Property {
+    pub const MIN_SIZE: usize = 10;
+}
+
+impl Layer {
+    pub const MIN_SIZE: usize = 8;
+}
+
+impl Boxes {
+    pub const BOX_SIZE: usize = 16;
+
+    pub const MIN_COUNT: usize = 1;
+
+    pub const MAX_COUNT: usize = 4095;
+}
+
+impl Poly {
+    pub const PAIR_SIZE: usize = 8;
+
+    pub const MIN_COUNT: usize = 4;
+
+    pub const MAX_COUNT: usize = 8191;
+}
+
+impl Wire {
+    pub const PAIR_SIZE: usize = 8;
+
+    pub const MIN_COUNT: usize = 1;
+
+    pub const MAX_COUNT: usize = 8190;
+
+    pub const MAX_FLAGS: u8 = 2;
+}
+
+impl Text {
+    pub const MIN_SIZE: usize = 18;
+}
+
+impl Sref {
+    // With neither angle, magnif nor array.
+    pub const MIN_SIZE: usize = 14;
+
+    pub const MAX_FLAGS: u8 = 15;
+}

@@ -1,0 +1,2 @@
+-- Laws for callers: `Exact`, that an exact answer has bits.
+pub mod Exact
