@@ -195,8 +195,8 @@ impl Text {
 }
 
 impl Sref {
-    // With neither angle, magnif nor array.
-    pub const MIN_SIZE: usize = 14;
+    // The bytes of its name; the fields before it depend on its flags.
+    pub const MIN_NAME: usize = 2;
 
     pub const MAX_FLAGS: u8 = 15;
 }

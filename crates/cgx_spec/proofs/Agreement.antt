@@ -22,7 +22,7 @@ use Rattle.cgx_spec.specs.Records.{size, contextAfter}
 use Rattle.cgx_spec.specs.Files.{Step, stop, go, step, walk, begin, walkOf}
 use Rattle.cgx_spec.specs.Restated.{typeByte, highestFlags, Side, low, middle, high, side, Orientation, orientationOf, FlagsAlike, NoZero, zerosAfter, IsString, Behind, libraryBehind, cellBehind, layerBehind, structBehind, propertiesBehind, farthest, runBehind, endBehind, lookBack}
 use Rattle.cgx_spec.specs.Demands.{LooksBack, Agreement}
-use Rattle.cgx_spec.proofs.Lists.{allBelow, at-each, T→true, true→T, and-left, and-right, and-both, same→eq}
+use Rattle.cgx_spec.proofs.Lists.{allBelow, at-each, T→true, true→T, and-left, and-right, same→eq, same-refl}
 use Rattle.cgx_spec.proofs.Demand3.{unknown-kind}
 use Rattle.cgx_spec.proofs.Sizes.{sizes-agree}
 use Rattle.cgx_spec.proofs.Steps.{StepAt, step-at}
@@ -149,11 +149,6 @@ flags-alike Sref x y hx hy = unfold flagsOf flagsFor meant in (λ e. e, λ e. e)
 flags-alike Endlib x y hx hy = unfold flagsOf flagsFor meant in (λ e. tt, λ t. refl)
 
 -- ---- strings
-
-same-refl : (b : List ℕ) → T (same b b)
-unfolding same
-same-refl [] = tt
-same-refl (x ∷ b) = and-both (eqb x x) (same b b) (eqb-refl x) (same-refl b)
 
 padded-is : (t : List ℕ) → padded t ≡ t ++ zerosAfter t
 unfolding padded

@@ -12,6 +12,7 @@ pub mod Verdicts
 pub mod Steps
 pub mod Loop
 pub mod Sizes
+pub mod Cuts
 pub mod Agreement
 pub mod Specimens
 pub mod RealAnswers

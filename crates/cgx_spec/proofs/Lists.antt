@@ -6,7 +6,7 @@ use Prim.Native.Nat.{ℕ, zero, suc, _+_, _*_, _/_, _%_, _≤_, _<_}
 use native.Mathlib.Nat.{zero-lt-suc, div-add-mod'}
 use native.Mathlib.Decide.{ℕ-discrete}
 use native.Mathlib.Omega.{arith}
-use lib.Dec.{T, leb, ltb, eqb, leb→le, ltb→lt, nltb→le, eqb→eq, eqb-refl, not-T}
+use lib.Dec.{T, leb, ltb, eqb, leb→le, le→leb, ltb→lt, nltb→le, eqb→eq, eqb-refl, not-T}
 use lib.ListN.{take, drop}
 use Rattle.cgx_spec.specs.Numbers.{Bytes}
 use Rattle.cgx_spec.specs.Strings.{same}
@@ -74,6 +74,10 @@ pub and-true : (a : Bool) → (a && true) ≡ a
 and-true true = refl
 and-true false = refl
 
+pub and-assoc : (a b c : Bool) → (a && (b && c)) ≡ (a && b && c)
+and-assoc true b c = refl
+and-assoc false b c = refl
+
 pub every-cons : {A : Type 0} (p : A → Bool) (x : A) (xs : List A) → T (every p (x ∷ xs)) → T (p x) × T (every p xs)
 every-cons p x xs t = (and-left (p x) (every p xs) t, and-right (p x) (every p xs) t)
 
@@ -84,6 +88,9 @@ units-is u lo hi w h =
     let q : w / u * u + w % u ≡ w = div-add-mod' w u in
     let e : w ≡ w / u * u = omega arith in
     (e, leb→le lo (w / u) (and-right (eqb (w % u) 0) (leb lo (w / u)) h₁), leb→le (w / u) hi (and-right (eqb (w % u) 0 && leb lo (w / u)) (leb (w / u) hi) h))
+
+pub to-units : (u lo hi w : ℕ) → w % u ≡ 0 → lo ≤ w / u → w / u ≤ hi → T (units u lo hi w)
+to-units u lo hi w e l h = and-both (eqb (w % u) 0 && leb lo (w / u)) (leb (w / u) hi) (and-both (eqb (w % u) 0) (leb lo (w / u)) (eq→eqb (w % u) 0 e) (le→leb lo (w / u) l)) (le→leb (w / u) hi h)
 
 -- the test holds of each number below n
 unfoldable pub allBelow : ℕ → (ℕ → Bool) → Bool
@@ -133,3 +140,8 @@ same→eq (c ∷ cs) (b ∷ bs) t =
     let p : c ≡ b = eqb→eq c b (and-left (eqb c b) (same cs bs) t) in
     let q : cs ≡ bs = same→eq cs bs (and-right (eqb c b) (same cs bs) t) in
     cc
+
+pub same-refl : (b : List ℕ) → T (same b b)
+unfolding same
+same-refl [] = tt
+same-refl (x ∷ b) = and-both (eqb x x) (same b b) (eqb-refl x) (same-refl b)

@@ -14,10 +14,7 @@ use Rattle.cgx_spec.specs.Kinds.{angle, magnif, array, onlyIf, point, la
 use Rattle.cgx_spec.specs.Records.{Rec, size, piecesOf}
 use Rattle.cgx_spec.specs.Files.{go, before}
 use Rattle.cgx_spec.specs.Restated.{repeated, goodSize}
-use Rattle.cgx_spec.proofs.Lists.{T→true, true→T, ¬T→false, false→¬T, eq→eqb, bool-ext, and-true, and-left, and-right, and-both, units-is}
-
-to-units : (u lo hi w : ℕ) → w % u ≡ 0 → lo ≤ w / u → w / u ≤ hi → T (units u lo hi w)
-to-units u lo hi w e l h = and-both (eqb (w % u) 0 && leb lo (w / u)) (leb (w / u) hi) (and-both (eqb (w % u) 0) (leb lo (w / u)) (eq→eqb (w % u) 0 e) (le→leb lo (w / u) l)) (le→leb (w / u) hi h)
+use Rattle.cgx_spec.proofs.Lists.{T→true, true→T, ¬T→false, false→¬T, eq→eqb, bool-ext, and-true, and-assoc, and-left, and-right, and-both, units-is, to-units}
 
 -- ---- the fields fit by the length of the body alone
 
@@ -84,10 +81,6 @@ record Prefix (fs : List Field) (a : ℕ) (rest : List Field) : Type 0 where
 
 prefix-end : (rest : List Field) → Prefix rest 0 rest
 prefix-end rest = record { is = λ n. let e : leb 0 n ≡ true = T→true (le→leb 0 n (omega arith)) in rw (e, sub-zero n) }
-
-and-assoc : (a b c : Bool) → (a && (b && c)) ≡ (a && b && c)
-and-assoc true b c = refl
-and-assoc false b c = refl
 
 two-tests : (w a n : ℕ) → (leb w n && leb a (n - w)) ≡ leb (w + a) n
 two-tests w a n =

@@ -1,0 +1,247 @@
+// The rules 8 to 12 of a record's body, a function a kind. Each answers the number of the first rule that is broken, or 0.
+ghost use mathlib.Core.Path.{_≡_};
+ghost use mathlib.Core.Bool.{true, cond, not, _&&_, _||_};
+ghost use mathlib.Core.List.{[], _∷_};
+ghost use Prim.Native.Nat.{_+_, _≤_};
+ghost use lib.ListN.{length, take, drop};
+ghost use Rattle.cgx_spec.specs.declared.Kind.the-variants.{Library as KLibrary, Struct as KStruct, Cprpty as KCprpty, Property as KProperty, Layer as KLayer, Box as KBox, Poly as KPoly, Wire as KWire, Text as KText, Sref as KSref, Endlib as KEndlib};
+ghost use Rattle.cgx_spec.specs.Numbers.{longsOf};
+ghost use Rattle.cgx_spec.specs.Reals.{positiveReal};
+ghost use Rattle.cgx_spec.specs.Fields.{ones};
+ghost use Rattle.cgx_spec.specs.Records.{rule, broken};
+ghost use Rattle.cgx_bodies.specs.Bodies.{numberOr0, bodyFault, Body};
+use cgx_fields::boxes_good;
+use cgx_fields::closed_good;
+use cgx_fields::count_good;
+use cgx_fields::date_good;
+use cgx_fields::optional_good;
+use cgx_fields::string_good;
+use cgx_kinds::Boxes;
+use cgx_kinds::Cprpty;
+use cgx_kinds::Layer;
+use cgx_kinds::Library;
+use cgx_kinds::Poly;
+use cgx_kinds::Property;
+use cgx_kinds::Sref;
+use cgx_kinds::Struct;
+use cgx_kinds::Text;
+use cgx_kinds::Wire;
+use cgx_reals::positive_bytes;
+
+// The bytes before a body: its record's header.
+const HEADER: usize = 4;
+
+// ---- the eleven kinds
+
+pub fn library_fault(b: &[u8], fl: u8) -> u8
+    requires { ⌜ Body (now b) ⌝ }
+    ensures { λ r. ⌜ r ≡ bodyFault KLibrary fl (now (b .entry)) ⌝ }
+{
+    if b.len() + HEADER < Library::MIN_SIZE {
+        return 8;
+    }
+    let munit = positive_bytes(&b[0..8]);
+    let uunit = positive_bytes(&b[8..16]);
+    let created = date_good(&b[16..24]);
+    let modified = date_good(&b[24..32]);
+    let name = string_good(&b[32..]);
+    first_broken(created & modified, munit & uunit, name, true)
+}
+
+pub fn struct_fault(b: &[u8], fl: u8) -> u8
+    requires { ⌜ Body (now b) ⌝ }
+    ensures { λ r. ⌜ r ≡ bodyFault KStruct fl (now (b .entry)) ⌝ }
+{
+    if b.len() + HEADER < Struct::MIN_SIZE {
+        return 8;
+    }
+    let created = date_good(&b[0..8]);
+    let modified = date_good(&b[8..16]);
+    let name = string_good(&b[16..]);
+    first_broken(created & modified, true, name, true)
+}
+
+pub fn cprpty_fault(b: &[u8], fl: u8) -> u8
+    requires { ⌜ Body (now b) ⌝ }
+    ensures { λ r. ⌜ r ≡ bodyFault KCprpty fl (now (b .entry)) ⌝ }
+{
+    if b.len() + HEADER < Cprpty::MIN_SIZE {
+        return 8;
+    }
+    let value = string_good(&b[4..]);
+    first_broken(true, true, value, true)
+}
+
+pub fn property_fault(b: &[u8], fl: u8) -> u8
+    requires { ⌜ Body (now b) ⌝ }
+    ensures { λ r. ⌜ r ≡ bodyFault KProperty fl (now (b .entry)) ⌝ }
+{
+    if b.len() + HEADER < Property::MIN_SIZE {
+        return 8;
+    }
+    let value = string_good(&b[4..]);
+    first_broken(true, true, value, true)
+}
+
+pub fn layer_fault(b: &[u8], fl: u8) -> u8
+    requires { ⌜ Body (now b) ⌝ }
+    ensures { λ r. ⌜ r ≡ bodyFault KLayer fl (now (b .entry)) ⌝ }
+{
+    if b.len() + HEADER < Layer::MIN_SIZE {
+        return 8;
+    }
+    let name = optional_good(&b[4..]);
+    first_broken(true, true, name, true)
+}
+
+pub fn box_fault(b: &[u8], fl: u8) -> u8
+    requires { ⌜ Body (now b) ⌝ }
+    ensures { λ r. ⌜ r ≡ bodyFault KBox fl (now (b .entry)) ⌝ }
+{
+    let n = b.len();
+    if n % Boxes::BOX_SIZE != 0 {
+        return 8;
+    }
+    let count = n / Boxes::BOX_SIZE;
+    if count < Boxes::MIN_COUNT {
+        return 8;
+    }
+    if Boxes::MAX_COUNT < count {
+        return 8;
+    }
+    let boxes = boxes_good(b);
+    first_broken(true, boxes, true, true)
+}
+
+pub fn poly_fault(b: &[u8], fl: u8) -> u8
+    requires { ⌜ Body (now b) ⌝ }
+    ensures { λ r. ⌜ r ≡ bodyFault KPoly fl (now (b .entry)) ⌝ }
+{
+    let n = b.len();
+    if n % Poly::PAIR_SIZE != 0 {
+        return 8;
+    }
+    let count = n / Poly::PAIR_SIZE;
+    if count < Poly::MIN_COUNT {
+        return 8;
+    }
+    if Poly::MAX_COUNT < count {
+        return 8;
+    }
+    let end = closed_good(b);
+    first_broken(true, true, true, end)
+}
+
+pub fn wire_fault(b: &[u8], fl: u8) -> u8
+    requires { ⌜ Body (now b) ⌝ }
+    ensures { λ r. ⌜ r ≡ bodyFault KWire fl (now (b .entry)) ⌝ }
+{
+    // The width stands before the pairs.
+    if b.len() < 4 {
+        return 8;
+    }
+    let n = b.len() - 4;
+    if n % Wire::PAIR_SIZE != 0 {
+        return 8;
+    }
+    let count = n / Wire::PAIR_SIZE;
+    if count < Wire::MIN_COUNT {
+        return 8;
+    }
+    if Wire::MAX_COUNT < count {
+        return 8;
+    }
+    0
+}
+
+pub fn text_fault(b: &[u8], fl: u8) -> u8
+    requires { ⌜ Body (now b) ⌝ }
+    ensures { λ r. ⌜ r ≡ bodyFault KText fl (now (b .entry)) ⌝ }
+{
+    if b.len() + HEADER < Text::MIN_SIZE {
+        return 8;
+    }
+    let label = string_good(&b[12..]);
+    first_broken(true, true, label, true)
+}
+
+pub fn sref_fault(b: &[u8], fl: u8) -> u8
+    requires { ⌜ Body (now b) ⌝ }
+    ensures { λ r. ⌜ r ≡ bodyFault KSref fl (now (b .entry)) ⌝ }
+{
+    let angle = fl % 2 == 1;
+    let magnif = fl / 2 % 2 == 1;
+    let array = fl / 8 % 2 == 1;
+    let magnif_at = after(angle, 8, 8);
+    let grid_at = after(magnif, magnif_at, 8);
+    let name_at = after(array, grid_at, 24);
+    if b.len() < name_at + Sref::MIN_NAME {
+        return 8;
+    }
+    let scale = magnif_good(b, magnif_at, magnif);
+    let grid = grid_good(b, grid_at, array);
+    let name = string_good(&b[name_at..]);
+    first_broken(true, scale & grid, name, true)
+}
+
+pub fn endlib_fault(b: &[u8], fl: u8) -> u8
+    requires { ⌜ Body (now b) ⌝ }
+    ensures { λ r. ⌜ r ≡ bodyFault KEndlib fl (now (b .entry)) ⌝ }
+{
+    if b.len() == 0 { 0 } else { 8 }
+}
+
+// ---- what they share
+
+// The first of the rules 9 to 12 that is broken, or 0.
+fn first_broken(dates: bool, numbers: bool, texts: bool, ring: bool) -> u8
+    ensures { λ r. ⌜ r ≡ numberOr0 (broken (rule 9 dates ∷ rule 10 numbers ∷ rule 11 texts ∷ rule 12 ring ∷ [])) ⌝ }
+{
+    if !dates {
+        return 9;
+    }
+    if !numbers {
+        return 10;
+    }
+    if !texts {
+        return 11;
+    }
+    if !ring {
+        return 12;
+    }
+    0
+}
+
+// Where the next field of an SREF begins: w bytes on, if this one stands.
+fn after(stands: bool, at: usize, w: usize) -> usize
+    requires { ⌜ (at ≤ 100) × (w ≤ 100) ⌝ }
+    ensures { λ r. ⌜ r ≡ cond stands (at + w) at ⌝ }
+{
+    if stands { at + w } else { at }
+}
+
+fn magnif_good(b: &[u8], at: usize, stands: bool) -> bool
+    requires { ⌜ (stands ≡ true → at + 8 ≤ length (now b)) ⌝ }
+    ensures { λ r. ⌜ r ≡ (not stands || positiveReal (take 8 (drop at (now (b .entry))))) ⌝ }
+{
+    if stands {
+        let end = at + 8;
+        return positive_bytes(&b[at..end]);
+    }
+    true
+}
+
+// Columns and rows.
+fn grid_good(b: &[u8], at: usize, stands: bool) -> bool
+    requires { ⌜ (stands ≡ true → at + 24 ≤ length (now b)) ⌝ }
+    ensures { λ r. ⌜ r ≡ (not stands || (ones (longsOf (take 4 (drop at (now (b .entry))))) && ones (longsOf (take 4 (drop (at + 4) (now (b .entry))))))) ⌝ }
+{
+    if stands {
+        let middle = at + 4;
+        let end = at + 8;
+        let cols = count_good(&b[at..middle]);
+        let rows = count_good(&b[middle..end]);
+        return cols & rows;
+    }
+    true
+}

@@ -1,0 +1,2 @@
+-- What the loop over a text's bytes answers.
+pub mod Zeros

@@ -1,0 +1,2 @@
+-- What the functions of a record ask and answer.
+pub mod Faults
