@@ -4,7 +4,7 @@ ghost use Rattle.cgx_spec.specs.Numbers.{Bytes};
 ghost use Rattle.cgx_spec.specs.Files.{verdictOf};
 use cgx_records::start_context;
 use cgx_spec::Verdict;
-use cgx_steps::begin_fault;
+use cgx_steps::opening_fault;
 use cgx_steps::context_after;
 use cgx_steps::step_at;
 use cgx_steps::Stepped;
@@ -14,7 +14,7 @@ pub fn check(file: &[u8]) -> Verdict
     ensures { λ r. ⌜ r ≡ verdictOf (now (file .entry)) ⌝ }
     ensures bytes { λ _. ⌜ Bytes (now (file .entry)) ⌝ }
 {
-    let number = begin_fault(file);
+    let number = opening_fault(file);
     if number != 0 {
         return Verdict::Refused { number, at: 0 };
     }

@@ -19,7 +19,7 @@ use Rattle.cgx_spec.specs.Strings.{textOf, padded, same, goodString}
 use Rattle.cgx_spec.specs.Kinds.{kindOf, orientation, flagsFor, allows, meant, goodFlags, flagsOf}
 use Rattle.cgx_spec.specs.Order.{start, longer, next}
 use Rattle.cgx_spec.specs.Records.{size, contextAfter}
-use Rattle.cgx_spec.specs.Files.{Step, stop, go, step, walk, begin, walkOf}
+use Rattle.cgx_spec.specs.Files.{Step, stop, go, step, walk, opening, opened, begin, walkOf}
 use Rattle.cgx_spec.specs.Restated.{typeByte, highestFlags, Side, low, middle, high, side, Orientation, orientationOf, FlagsAlike, NoZero, zerosAfter, IsString, Behind, libraryBehind, cellBehind, layerBehind, structBehind, propertiesBehind, farthest, runBehind, endBehind, lookBack}
 use Rattle.cgx_spec.specs.Demands.{LooksBack, Agreement}
 use Rattle.cgx_spec.proofs.Lists.{allBelow, at-each, T→true, true→T, and-left, and-right, same→eq, same-refl}
@@ -232,7 +232,7 @@ unfolding start lookBack libraryBehind cellBehind layerBehind structBehind prope
 start-looks = refl
 
 contexts : (f : List ℕ) → LooksBack [] (walkOf f .records)
-unfolding walkOf begin walk
+unfolding walkOf begin opening walk
 contexts [] = tt
 contexts (a ∷ []) = tt
 contexts (a ∷ b ∷ []) = tt
@@ -242,7 +242,7 @@ contexts (a ∷ b ∷ c ∷ l ∷ bs) = go (eqb a 99 && eqb b 103 && eqb c 120) 
     n : ℕ
     n = suc (suc (suc (suc (length bs))))
 
-    go : (y z : Bool) → LooksBack [] (walk n (cond y (cond z (step start 4 bs) (stop (refused 2 0))) (stop (refused 1 0))) .records)
+    go : (y z : Bool) → LooksBack [] (walk n (opened (cond y (cond z 0 2) 1) bs) .records)
     go true true = walk-looks n bs start 4 (step start 4 bs) (step-at start 4 bs) [] start-looks
     go true false = tt
     go false z = tt

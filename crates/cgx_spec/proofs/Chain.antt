@@ -22,7 +22,7 @@ use Rattle.cgx_spec.specs.Fields.{good, every, join}
 use Rattle.cgx_spec.specs.Kinds.{kindOf, count}
 use Rattle.cgx_spec.specs.Order.{start, stands, awaiting, met, needsOf, allowed, longer, next}
 use Rattle.cgx_spec.specs.Records.{Rec, size, bytesOf, rule, broken, rules, faultOf, Placed, contextAfter}
-use Rattle.cgx_spec.specs.Files.{Cut, bad, found, cutBody, cut, Step, stop, go, settle, judge, finish, step, Walk, before, walk, header, begin, walkOf, verdictOf, Accepted, recordsOf}
+use Rattle.cgx_spec.specs.Files.{Cut, bad, found, cutBody, cut, Step, stop, go, settle, judge, finish, step, Walk, before, walk, header, opening, opened, begin, walkOf, verdictOf, Accepted, recordsOf}
 use Rattle.cgx_spec.specs.Written.{Sized, GoodFrom, placeAll, last}
 use Rattle.cgx_spec.proofs.Lists.{true→T, and-left, and-right, eqb-false, eqb-false→ne, ltb-false, ltb-false→le, or-left-false, or-right-false, Bytes-take, Bytes-drop, Bytes-append, Bytes-cons}
 
@@ -261,7 +261,7 @@ Bytes-join s [] c = λ i. zero-lt-suc 255
 Bytes-join s (r ∷ rs) c = Bytes-append (bytesOf r) (join bytesOf rs) (Bytes-of r (c .1)) (Bytes-join (then s (kindOf (r .type))) rs (c .3))
 
 pub file-complete : (rs : List Rec) → Chain (stateOf start) rs → Accepted (header ++ join bytesOf rs) × (recordsOf (header ++ join bytesOf rs) ≡ rs)
-unfolding Accepted verdictOf recordsOf walkOf begin
+unfolding Accepted verdictOf recordsOf walkOf begin opening
 file-complete rs c = walk-complete rs (length (header ++ join bytesOf rs)) start 4 (omega (arith, length-join rs)) c
 
 -- what it means that a walk has begun
@@ -274,7 +274,7 @@ begun f n at zero e = absurd (let z : _≡_ {A = ℕ} 0 1 = cc in omega arith)
 begun f n at (suc k) e = absurd (let z : _≡_ {A = ℕ} 0 1 = cc in omega arith)
 
 begin-sound : (f : List ℕ) → Bytes f → BeginSound f (begin f)
-unfolding begin
+unfolding begin opening
 begin-sound [] h = begun [] 1 0
 begin-sound (a ∷ []) h = begun (a ∷ []) 1 0
 begin-sound (a ∷ b ∷ []) h = begun (a ∷ b ∷ []) 1 0
@@ -284,7 +284,7 @@ begin-sound (a ∷ b ∷ c ∷ l ∷ bs) h = one (eqb a 99 && eqb b 103 && eqb c
     f : List ℕ
     f = a ∷ b ∷ c ∷ l ∷ bs
 
-    two : (z : Bool) → eqb l 0 ≡ z → T (eqb a 99 && eqb b 103 && eqb c 120) → BeginSound f (cond z (step start 4 bs) (stop (refused 2 0)))
+    two : (z : Bool) → eqb l 0 ≡ z → T (eqb a 99 && eqb b 103 && eqb c 120) → BeginSound f (opened (cond z 0 2) bs)
     two true ez t k e =
         let r = walk-sound k start bs (step start 4 bs) (step-sound start 4 bs (λ i. h (suc (suc (suc (suc i)))))) e in
         let t₂ = and-left (eqb a 99 && eqb b 103) (eqb c 120) t in
@@ -295,7 +295,7 @@ begin-sound (a ∷ b ∷ c ∷ l ∷ bs) h = one (eqb a 99 && eqb b 103 && eqb c
         ((λ i. pa i ∷ pb i ∷ pc i ∷ pl i ∷ r .0 i), r .1)
     two false ez t k e = begun f 2 0 k e
 
-    one : (z : Bool) → (eqb a 99 && eqb b 103 && eqb c 120) ≡ z → BeginSound f (cond z (cond (eqb l 0) (step start 4 bs) (stop (refused 2 0))) (stop (refused 1 0)))
+    one : (z : Bool) → (eqb a 99 && eqb b 103 && eqb c 120) ≡ z → BeginSound f (opened (cond z (cond (eqb l 0) 0 2) 1) bs)
     one true ez = two (eqb l 0) refl (true→T ez)
     one false ez = begun f 1 0
 
@@ -330,4 +330,4 @@ pub file-places : (f : List ℕ) → Bytes f → Accepted f → walkOf f .record
 file-places f h a =
     let s = file-sound f h a in
     let rs = recordsOf f in
-    ap (λ (g : List ℕ). walkOf g .records) (s .0) ∙ (unfold walkOf begin in (walk-places rs (length (header ++ join bytesOf rs)) start 4 (omega (arith, length-join rs)) (s .1)))
+    ap (λ (g : List ℕ). walkOf g .records) (s .0) ∙ (unfold walkOf begin opening in (walk-places rs (length (header ++ join bytesOf rs)) start 4 (omega (arith, length-join rs)) (s .1)))

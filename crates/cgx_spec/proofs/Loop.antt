@@ -10,7 +10,7 @@ use Rattle.cgx_spec.specs.declared.Verdict.{Verdict}
 use Rattle.cgx_spec.specs.Numbers.{after, number}
 use Rattle.cgx_spec.specs.Order.{start}
 use Rattle.cgx_spec.specs.Records.{size, Placed, contextAfter}
-use Rattle.cgx_spec.specs.Files.{Step, stop, go, step, before, walk, header, begin, walkOf}
+use Rattle.cgx_spec.specs.Files.{Step, stop, go, step, before, walk, header, opening, opened, begin, walkOf}
 use Rattle.cgx_spec.specs.Walking.{walkFrom}
 use Rattle.cgx_spec.proofs.Verdicts.{StepNamed, step-named}
 use Rattle.cgx_spec.proofs.Steps.{StepAt, step-at}
@@ -30,7 +30,7 @@ fuel (suc k) (suc j) bs (go p rest) h lk lj =
 
 -- the whole file is the walk from offset 4
 pub from-start : (bs : List ℕ) → walkOf (header ++ bs) ≡ walkFrom (header ++ bs) start 4
-unfolding walkOf begin walkFrom
+unfolding walkOf begin opening walkFrom
 from-start bs = refl
 
 -- a step that stops ends the walk

@@ -21,7 +21,7 @@ use Rattle.cgx_spec.specs.Dates.{within}
 use Rattle.cgx_spec.specs.Kinds.{kindOf, count}
 use Rattle.cgx_spec.specs.Order.{start, longer, next}
 use Rattle.cgx_spec.specs.Records.{Rec, size, faultOf, Placed, contextAfter, viewOf}
-use Rattle.cgx_spec.specs.Files.{Cut, bad, found, cutBody, cut, Step, stop, go, settle, judge, finish, step, Walk, walk, header, begin, walkOf, verdictOf, ifSeen, views, viewsOf}
+use Rattle.cgx_spec.specs.Files.{Cut, bad, found, cutBody, cut, Step, stop, go, settle, judge, finish, step, Walk, walk, header, opening, opened, begin, walkOf, verdictOf, ifSeen, views, viewsOf}
 use Rattle.cgx_spec.specs.Walking.{firstPlace, placeAfter, offsetUpTo, runUpTo, forged, seen, refusedAt, ending, answer, stepOf, Reads, andThen, reads}
 use Rattle.cgx_spec.specs.Written.{last}
 use Rattle.cgx_spec.specs.Demands.{Reading}
@@ -226,7 +226,7 @@ reading f (suc k) = λ c at m n h lk lm ln. go₁ c at m n h lk lm ln (step c at
     go₁ c at (suc m) (suc n) h lk lm ln (go p rest) s ih = further f k ih c at m n h p rest s lk lm ln
 
 steps : (bs : List ℕ) → let f = header ++ bs in reads (length f) f (stepOf f firstPlace) ≡ record { views = viewsOf f; last = ending (verdictOf f) }
-unfolding stepOf firstPlace viewsOf verdictOf walkOf begin start
+unfolding stepOf firstPlace viewsOf verdictOf walkOf begin opening start
 steps bs =
     let f = header ++ bs in
     let w : Within 4 start = record { cell-in = tt; layer-in = tt; run-in = tt } in

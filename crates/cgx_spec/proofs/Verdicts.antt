@@ -13,7 +13,7 @@ use Rattle.cgx_spec.specs.Numbers.{number}
 use Rattle.cgx_spec.specs.Kinds.{kindOf}
 use Rattle.cgx_spec.specs.Order.{start, allowed}
 use Rattle.cgx_spec.specs.Records.{Rec, size, Rule, broken, rules, faultOf, contextAfter}
-use Rattle.cgx_spec.specs.Files.{Cut, bad, found, cutBody, cut, Step, stop, go, settle, judge, finish, step, walk, begin, walkOf, verdictOf}
+use Rattle.cgx_spec.specs.Files.{Cut, bad, found, cutBody, cut, Step, stop, go, settle, judge, finish, step, walk, opening, opened, begin, walkOf, verdictOf}
 use Rattle.cgx_spec.specs.Demands.{Named, Verdicts}
 
 -- ---- a record
@@ -94,7 +94,7 @@ walk-named (suc k) bs (go p rest) h l =
     walk-named k rest (step (contextAfter p) (p .at + size (p .rec)) rest) (step-named (contextAfter p) (p .at + size (p .rec)) rest) (omega arith)
 
 begin-named : (f : List ℕ) → Named (verdictOf f)
-unfolding verdictOf walkOf begin
+unfolding verdictOf walkOf begin opening
 begin-named [] = walk-named 0 [] (stop (refused 1 0)) (omega arith) (omega arith)
 begin-named (a ∷ []) = walk-named 1 [] (stop (refused 1 0)) (omega arith) (omega arith)
 begin-named (a ∷ b ∷ []) = walk-named 2 [] (stop (refused 1 0)) (omega arith) (omega arith)
@@ -104,7 +104,7 @@ begin-named (a ∷ b ∷ c ∷ l ∷ bs) = go (eqb a 99 && eqb b 103 && eqb c 12
     n : ℕ
     n = suc (suc (suc (suc (length bs))))
 
-    go : (y z : Bool) → Named (walk n (cond y (cond z (step start 4 bs) (stop (refused 2 0))) (stop (refused 1 0))) .verdict)
+    go : (y z : Bool) → Named (walk n (opened (cond y (cond z 0 2) 1) bs) .verdict)
     go true true = walk-named n bs (step start 4 bs) (step-named start 4 bs) (omega arith)
     go true false = walk-named n bs (stop (refused 2 0)) (omega arith) (omega arith)
     go false z = walk-named n bs (stop (refused 1 0)) (omega arith) (omega arith)

@@ -85,14 +85,21 @@ walk (suc k) (go p bs) = before p (walk k (step (contextAfter p) (p .at + size (
 abbrev pub header : List ℕ
 header = 99 ∷ 103 ∷ 120 ∷ 0 ∷ []
 
--- 1: "under 4 bytes, or not `cgx`"; 2: "level not 0". "Its records begin at offset 4."
+-- 1: "under 4 bytes, or not `cgx`"; 2: "level not 0"; 0 for neither.
+unfoldable pub opening : List ℕ → ℕ
+opening [] = 1
+opening (a ∷ []) = 1
+opening (a ∷ b ∷ []) = 1
+opening (a ∷ b ∷ c ∷ []) = 1
+opening (a ∷ b ∷ c ∷ level ∷ bs) = cond (eqb a 99 && eqb b 103 && eqb c 120) (cond (eqb level 0) 0 2) 1
+
+-- "Its records begin at offset 4."
+abbrev pub opened : ℕ → List ℕ → Step
+opened zero bs = step start 4 bs
+opened (suc n) bs = stop (refused (suc n) 0)
+
 unfoldable pub begin : List ℕ → Step
-begin [] = stop (refused 1 0)
-begin (a ∷ []) = stop (refused 1 0)
-begin (a ∷ b ∷ []) = stop (refused 1 0)
-begin (a ∷ b ∷ c ∷ []) = stop (refused 1 0)
-begin (a ∷ b ∷ c ∷ level ∷ bs) =
-    cond (eqb a 99 && eqb b 103 && eqb c 120) (cond (eqb level 0) (step start 4 bs) (stop (refused 2 0))) (stop (refused 1 0))
+begin f = opened (opening f) (drop 4 f)
 
 unfoldable pub walkOf : List ℕ → Walk
 walkOf f = walk (length f) (begin f)

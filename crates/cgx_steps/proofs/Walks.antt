@@ -9,7 +9,7 @@ use lib.Seq.{length-take-le}
 use Rattle.cgx_spec.specs.Kinds.{kindOf}
 use Rattle.cgx_spec.specs.Order.{start, longer, next}
 use Rattle.cgx_spec.specs.Records.{size, Placed, contextAfter}
-use Rattle.cgx_spec.specs.Files.{Step, stop, step, begin, Walk, before, walk, walkOf, verdictOf}
+use Rattle.cgx_spec.specs.Files.{Step, stop, step, opening, opened, begin, Walk, before, walk, walkOf, verdictOf}
 use Rattle.cgx_spec.specs.Walking.{recAt, Held, walkFrom}
 use Rattle.cgx_spec.specs.declared.Kind.{Kind}
 use Rattle.cgx_spec.specs.declared.Kind.the-variants.{Library, Struct, Cprpty, Property, Layer, Box, Poly, Wire, Text, Sref, Endlib}
@@ -20,7 +20,7 @@ use Rattle.cgx_spec.specs.declared.Verdict.{Verdict}
 use Rattle.cgx_spec.specs.declared.Verdict.the-variants.{Refused}
 use Rattle.cgx_records.specs.Faults.{waiting}
 use Rattle.cgx_spec.proofs.Loop.{from-stop, from-go}
-use Rattle.cgx_steps.specs.Steps.{stepMeant, beginMeant, StepIn}
+use Rattle.cgx_steps.specs.Steps.{stepMeant, Good, StepIn}
 use Rattle.cgx_steps.specs.declared.Stepped.{Stepped}
 use Rattle.cgx_steps.specs.declared.Stepped.the-variants.{Stop, Go}
 
@@ -32,14 +32,14 @@ unfolding walk
 stopped zero v = refl
 stopped (suc k) v = refl
 
-pub began : (f : List ℕ) {k : ℕ} → begin f ≡ beginMeant f k → k ≡ 0 → verdictOf f ≡ rest f start 4
-unfolding verdictOf walkOf walkFrom beginMeant
-began f {k} e z = ap (λ (s : Step). walk (length f) s .verdict) (e ∙ ap (beginMeant f) z)
+pub began : (f : List ℕ) → opening f ≡ 0 → verdictOf f ≡ rest f start 4
+unfolding verdictOf walkOf walkFrom begin
+began f z = ap (λ (k : ℕ). walk (length f) (opened k (drop 4 f)) .verdict) z
 
-pub not-begun : (f : List ℕ) (k : ℕ) → begin f ≡ beginMeant f k → (k ≡ 0 → ⊥) → Refused k 0 ≡ verdictOf f
-unfolding verdictOf walkOf beginMeant
+pub not-begun : (f : List ℕ) (k : ℕ) → k ≡ opening f → (k ≡ 0 → ⊥) → Refused k 0 ≡ verdictOf f
+unfolding verdictOf walkOf begin
 not-begun f zero e z = absurd (z refl)
-not-begun f (suc k) e z = sym (ap (λ (s : Step). walk (length f) s .verdict) e ∙ stopped (length f) (Refused (suc k) 0))
+not-begun f (suc k) e z = sym (ap (λ (n : ℕ). walk (length f) (opened n (drop 4 f)) .verdict) (sym e) ∙ stopped (length f) (Refused (suc k) 0))
 
 -- one PROPERTY more, at most
 longer-waiting : (r : Run) (at : ℕ) → waiting (longer r at) ≤ suc (waiting r)
@@ -69,10 +69,13 @@ held-size f at {n} h =
     let l = length-take-le (n - 4) (drop (at + 4) f) (omega (arith, length-drop (at + 4) f)) in
     omega arith
 
-module _ (f : List ℕ) (c : Context) (at : ℕ) {r : Stepped} (e : (step c at (drop at f) ≡ stepMeant f c at r) × StepIn f at r) where
-  pub held : {n : ℕ} → r ≡ Go n → Held f at n
+module _ (f : List ℕ) (c : Context) (at : ℕ) {r : Stepped} (e : (step c at (drop at f) ≡ stepMeant f c at r) × StepIn f c at r) where
+  pub good : {n : ℕ} → r ≡ Go n → Good f c at n
   unfolding StepIn
-  held q = subst (StepIn f at) q (e .1)
+  good q = subst (StepIn f c at) q (e .1)
+
+  pub held : {n : ℕ} → r ≡ Go n → Held f at n
+  held q = good q .held
 
   -- a good record, and then the walk from the offset after it
   pub walked-go : {n : ℕ} {d : Context} → r ≡ Go n → d ≡ next c at (kindOf (getD f (at + 2) 0)) → walkFrom f c at ≡ before (record { at = at; context = c; rec = recAt f at n }) (walkFrom f d (at + n))

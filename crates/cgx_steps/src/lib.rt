@@ -5,9 +5,9 @@ ghost use Prim.Native.Nat.{_<_, _≤_};
 ghost use lib.ListN.{length, drop};
 ghost use Rattle.cgx_spec.specs.Kinds.{kindOf};
 ghost use Rattle.cgx_spec.specs.Order.{next};
-ghost use Rattle.cgx_spec.specs.Files.{cut, step, begin};
+ghost use Rattle.cgx_spec.specs.Files.{opening, cut, step};
 ghost use Rattle.cgx_records.specs.Faults.{waiting};
-ghost use Rattle.cgx_steps.specs.Steps.{cutMeant, stepMeant, beginMeant, HeadIn, StepIn};
+ghost use Rattle.cgx_steps.specs.Steps.{cutMeant, stepMeant, HeadIn, StepIn};
 use cgx_numbers::unsigned_at;
 use cgx_records::kind_of;
 use cgx_records::next_context;
@@ -28,9 +28,8 @@ pub enum Stepped {
 }
 
 // The first four bytes of a file: refusal 1 or 2, or 0.
-pub fn begin_fault(s: &[u8]) -> u8
-    ensures { λ r. ⌜ begin (now (s .entry)) ≡ beginMeant (now (s .entry)) r ⌝ }
-    ensures { λ r. ⌜ (r ≡ 0 → 4 ≤ length (now (s .entry))) ⌝ }
+pub fn opening_fault(s: &[u8]) -> u8
+    ensures { λ r. ⌜ r ≡ opening (now (s .entry)) ⌝ }
 {
     if s.len() < 4 {
         return 1;
@@ -76,7 +75,7 @@ pub fn head_at(s: &[u8], at: usize) -> Head
 
 pub fn step_at(s: &[u8], c: Context, at: usize) -> Stepped
     requires { ⌜ at ≤ length (now s) ⌝ }
-    ensures { λ r. ⌜ (step c at (drop at (now (s .entry))) ≡ stepMeant (now (s .entry)) c at r) × StepIn (now (s .entry)) at r ⌝ }
+    ensures { λ r. ⌜ (step c at (drop at (now (s .entry))) ≡ stepMeant (now (s .entry)) c at r) × StepIn (now (s .entry)) c at r ⌝ }
 {
     if c.ended {
         if at == s.len() {

@@ -1,4 +1,5 @@
 -- The invariant: the verdict on the file is that of the walk from here on.
+use Rattle.cgx_steps.proofs.Heads.{opening-long}
 use Rattle.cgx_steps.proofs.Walks.{start-waiting, began, not-begun, next-waiting, held, walk-stop, walk-go}
 use mathlib.Core.Path.{_≡_, sym, ap, _∙_}
 use native.Mathlib.Omega.{arith}
@@ -20,17 +21,17 @@ Inv-loop file number c₀ at₀ c at = (at ≤ length file) × (waiting (c .run)
 abbrev μ-loop : tie.MeasureT-loop
 μ-loop file number c₀ at₀ c at = length file - at
 
-begin-fault-requires : tie.Need-begin-fault-requires Inv-loop μ-loop
-begin-fault-requires c κs = search needs
+opening-fault-requires : tie.Need-opening-fault-requires Inv-loop μ-loop
+opening-fault-requires c κs = search needs
 
 returns : tie.Need-returns Inv-loop μ-loop
-returns c = (not-begun (c .before .before .before .args .file .now) _ (c .before .begin-fault .ensures .0) (c .if1 .taken), λ i. c .before .before .shared-slice-known .given i .fits)
+returns c = (not-begun (c .before .before .before .args .file .now) _ (c .before .opening-fault .ensures) (c .if1 .taken), λ i. c .before .before .shared-slice-known .given i .fits)
 
 start-context-requires : tie.Need-start-context-requires Inv-loop μ-loop
 start-context-requires c κs = search needs
 
 loop-holds : tie.Need-loop-holds Inv-loop μ-loop
-loop-holds c = (c .before .before .begin-fault .ensures .1 (c .before .if1 .left), start-waiting (c .start-context .ensures), began (c .before .before .before .before .args .file .now) (c .before .before .begin-fault .ensures .0) (c .before .if1 .left) ∙ ap (λ (x : Context). walkFrom (c .before .before .before .before .args .file .now) x 4 .verdict) (sym (c .start-context .ensures)))
+loop-holds c = (opening-long (c .before .before .before .before .args .file .now) (sym (c .before .before .opening-fault .ensures) ∙ c .before .if1 .left), start-waiting (c .start-context .ensures), began (c .before .before .before .before .args .file .now) (sym (c .before .before .opening-fault .ensures) ∙ c .before .if1 .left) ∙ ap (λ (x : Context). walkFrom (c .before .before .before .before .args .file .now) x 4 .verdict) (sym (c .start-context .ensures)))
 
 step-at-requires : tie.Need-step-at-requires Inv-loop μ-loop
 step-at-requires c κs = search needs
@@ -68,7 +69,7 @@ check-spec =
     (tie.spec
     Inv-loop
     μ-loop
-    begin-fault-requires
+    opening-fault-requires
     returns
     start-context-requires
     loop-holds
