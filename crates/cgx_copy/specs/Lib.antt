@@ -1,0 +1,2 @@
+-- One record in normal form.
+pub mod Copy

@@ -1,0 +1,19 @@
+-- By cases on the offset.
+use borrow.Author.Needs.{needs}
+use Rattle.cgx_places.proofs.offset_up_to.Statement.{statement}
+use Rattle.cgx_places.proofs.offset_up_to.Tie as tie
+
+enum-told : tie.Need-enum-told
+enum-told c = search needs
+
+enum-known-o : tie.Need-enum-known-o
+enum-known-o c = search needs
+
+returns : tie.Need-returns
+returns c = search needs
+
+returns-2 : tie.Need-returns-2
+returns-2 c = rw (c .before .o .given .1)
+
+pub offset-up-to-spec : {M : Type 1} → statement M
+offset-up-to-spec = tie.close (tie.spec enum-told enum-known-o returns returns-2)

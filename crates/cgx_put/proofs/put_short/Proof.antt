@@ -1,0 +1,32 @@
+-- `cgx_put::put_short` is right: it stores the bytes that `short_bytes` makes. Assumes nothing.
+use mathlib.Core.Path.{ap, _∙_}
+use mir.Syntax.{w16}
+use Rattle.cgx_spec.specs.Numbers.{shortBytes}
+use Rattle.cgx_numbers.proofs.Signed.{back}
+use Rattle.cgx_put.specs.Put.{put}
+use borrow.Author.Needs.{needs}
+use Rattle.cgx_put.proofs.put_short.Statement.{statement}
+use Rattle.cgx_put.proofs.put_short.Tie as tie
+
+short-bytes-requires : tie.Need-short-bytes-requires
+short-bytes-requires c κs = search needs
+
+slice-aggregate-put-bytes : tie.Need-slice-aggregate-put-bytes
+slice-aggregate-put-bytes c = search needs
+
+put-bytes-requires : tie.Need-put-bytes-requires
+put-bytes-requires c κs = search needs
+
+same-length : tie.Need-same-length
+same-length c = search needs
+
+returns : tie.Need-returns
+returns c =
+    let f = c .before .before in
+    let s = f .before .before .before .before .before in
+    let a = s .args in
+    f .put-bytes .ensures ∙ ap (put (a .out .now) (a .at)) (f .before .before .before .short-bytes .ensures ∙ ap shortBytes (back w16 (s .fits .n .sfits)))
+
+pub put-short-spec : {M : Type 1} → statement M
+put-short-spec =
+    tie.close (tie.spec short-bytes-requires slice-aggregate-put-bytes put-bytes-requires same-length returns)

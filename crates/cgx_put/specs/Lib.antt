@@ -1,0 +1,2 @@
+-- Stores of bytes into a buffer.
+pub mod Put

@@ -1,0 +1,26 @@
+-- `cgx_views::repeat_of` is right: a number with no rest by `unit` is `unit` times its quotient. Assumes nothing.
+use mathlib.Core.Path.{_≡_, refl}
+use Prim.Native.Nat.{_*_, _/_, _%_, _+_}
+use native.Mathlib.Omega.{arith}
+use native.Mathlib.Nat.{div-add-mod', mul-comm}
+use borrow.Author.Needs.{needs}
+use Rattle.cgx_views.proofs.repeat_of.Statement.{statement}
+use Rattle.cgx_views.proofs.repeat_of.Tie as tie
+use Rattle.cgx_views.proofs.repeat_of.Reads as reads
+use Rattle.cgx_views.proofs.repeat_of.Lts as lts
+
+-- src/lib.rt:253:16
+div-t4 : tie.Need-div-t4
+div-t4 c = search needs
+
+-- src/lib.rt:247:1
+returns : tie.Need-returns
+returns c = 
+    let len = c .args .len in
+    let unit = c .args .unit in
+    let q : len / unit * unit + len % unit ≡ len = div-add-mod' len unit in
+    let z : len % unit ≡ 0 = c .pre .1 in
+    (refl, omega (arith, mul-comm unit (len / unit)))
+
+pub repeat-of-spec : {M : Type 1} → statement M
+repeat-of-spec = tie.close (tie.spec div-t4 returns)
