@@ -4,10 +4,10 @@ ghost use Rattle.cgx_spec.specs.Numbers.{Bytes};
 ghost use Rattle.cgx_spec.specs.Files.{verdictOf};
 use cgx_records::start_context;
 use cgx_spec::Verdict;
-use cgx_steps::opening_fault;
-use cgx_steps::context_after;
-use cgx_steps::step_at;
 use cgx_steps::Stepped;
+use cgx_steps::context_after;
+use cgx_steps::opening_fault;
+use cgx_steps::step_at;
 
 // The verdict on a file: accepted, or the number and the place of its refusal. (A slice holds bytes, which is what demand 3 asks of a file.)
 pub fn check(file: &[u8]) -> Verdict

@@ -19,9 +19,9 @@ use cgx_spec::Offset;
 use cgx_spec::Place;
 use cgx_spec::Run;
 use cgx_spec::Verdict;
+use cgx_steps::Stepped;
 use cgx_steps::opening_fault;
 use cgx_steps::step_at;
-use cgx_steps::Stepped;
 use cgx_views::fields_of;
 
 // What starting a walk answers.

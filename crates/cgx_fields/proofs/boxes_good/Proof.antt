@@ -30,8 +30,7 @@ loop-less c = omega arith
 
 loop-again : tie.Need-loop-again Inv-loop μ-loop
 loop-again c =
-    let l = c .before .before .loop in
-    (
+    let l = c .before .before .loop in (
       omega arith,
       omega arith,
       boxes-on (c .before .before .before .before .args .b .now) (l .at) _ (l .all) (l .inv .2) (omega arith) (c .box-good .result) (c .box-good .ensures),

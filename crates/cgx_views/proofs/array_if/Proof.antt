@@ -60,7 +60,7 @@ point-at-requires-2 c κs = omega (arith, c .before .before .before .before .bef
 
 -- src/lib.rt:287:9
 returns : tie.Need-returns
-returns c = 
+returns c =
     let b = c .before .before .before in
     let t = b .before .if1 .taken in
     let s = b .before .before .before in

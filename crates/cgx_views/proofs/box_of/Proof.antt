@@ -29,7 +29,7 @@ repeat-of-requires c κs = omega arith
 -- src/lib.rt:127:1
 returns : tie.Need-returns
 unfolding fieldValues valuesAt layout piecesAt width values value
-returns c = 
+returns c =
     let s = c .before .before in
     repeat-value 16 (s .args .f .now) (s .args .at + 4) (s .args .size - 4) (c .repeat-of .result) (c .repeat-of .ensures) then refl
 

@@ -57,7 +57,7 @@ shared-slice-read-t18 c = search needs
 
 -- src/lib.rt:201:1
 returns : tie.Need-returns
-returns c = 
+returns c =
     let b = c .before .before .before .before .before in
     date-value (b .before .before .args .f .now) (b .before .before .args .at) (omega arith) (back w16 (b .short-at .ok) ∙ b .short-at .ensures)
 

@@ -47,7 +47,7 @@ name-at-requires c κs = c .before .before .before .pre .1
 -- src/lib.rt:112:1
 returns : tie.Need-returns
 unfolding fieldValues valuesAt layout piecesAt width values value
-returns c = 
+returns c =
     let s = c .before .before .before .before in
     ap one (back w16 (c .before .before .short-at .ok) ∙ c .before .before .short-at .ensures) then ap one (back w16 (c .before .short-at2 .ok) ∙ c .before .short-at2 .ensures) then c .name-at .ensures then refl
 

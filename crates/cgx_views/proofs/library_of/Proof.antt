@@ -61,7 +61,7 @@ text-at-requires c κs = c .before .before .before .before .before .pre
 -- src/lib.rt:62:1
 returns : tie.Need-returns
 unfolding fieldValues valuesAt layout piecesAt width values value
-returns c = 
+returns c =
     let s = c .before .before .before .before .before .before in
     c .before .before .before .before .real-at .ensures then c .before .before .before .real-at2 .ensures then c .before .before .date-at .ensures then c .before .date-at2 .ensures then c .text-at .ensures then refl
 

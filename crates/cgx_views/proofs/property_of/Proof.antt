@@ -40,7 +40,7 @@ text-at-requires c κs = c .before .before .pre
 -- src/lib.rt:103:1
 returns : tie.Need-returns
 unfolding fieldValues valuesAt layout piecesAt width values value
-returns c = 
+returns c =
     let s = c .before .before .before in
     long-value (s .args .f .now) (s .args .at + 4) (omega arith) (back w32 (c .before .long-at .ok) ∙ c .before .long-at .ensures) then c .text-at .ensures then refl
 

@@ -36,7 +36,7 @@ read-real-requires c κs = search needs
 
 -- src/lib.rt:193:1
 returns : tie.Need-returns
-returns c = 
+returns c =
     let s = c .before .before .before .args in
     let n : s .at + 8 - s .at ≡ 8 = omega arith in
     real-value (take 8 (drop (s .at) (s .f .now))) (c .read-real .ensures ∙ ap (λ (k : ℕ). answer (number (take k (drop (s .at) (s .f .now))))) n)

@@ -15,7 +15,7 @@ div-t4 c = search needs
 
 -- src/lib.rt:247:1
 returns : tie.Need-returns
-returns c = 
+returns c =
     let len = c .args .len in
     let unit = c .args .unit in
     let q : len / unit * unit + len % unit ≡ len = div-add-mod' len unit in

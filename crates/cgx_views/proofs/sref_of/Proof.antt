@@ -26,7 +26,7 @@ after-requires-3 c κs = (omega (arith, after-second (angle (c .before .before .
 
 -- src/lib.rt:176:30
 add-point-at : tie.Need-add-point-at
-add-point-at c = 
+add-point-at c =
     let k = c in
     let s = k .before .before .before .before in
     let h = sref-room (s .args .fl) (s .args .f .now) (s .args .at) (s .args .size) (s .pre) (k .before .before .after .ensures) (k .before .after2 .ensures) (k .after3 .ensures) in
@@ -34,7 +34,7 @@ add-point-at c =
 
 -- src/lib.rt:176:9
 point-at-requires : tie.Need-point-at-requires
-point-at-requires c κs = 
+point-at-requires c κs =
     let k = c in
     let s = k .before .before .before .before in
     let h = sref-room (s .args .fl) (s .args .f .now) (s .args .at) (s .args .size) (s .pre) (k .before .before .after .ensures) (k .before .after2 .ensures) (k .after3 .ensures) in
@@ -42,7 +42,7 @@ point-at-requires c κs =
 
 -- src/lib.rt:177:28
 add-real-if : tie.Need-add-real-if
-add-real-if c = 
+add-real-if c =
     let k = c .before in
     let s = k .before .before .before .before in
     let h = sref-room (s .args .fl) (s .args .f .now) (s .args .at) (s .args .size) (s .pre) (k .before .before .after .ensures) (k .before .after2 .ensures) (k .after3 .ensures) in
@@ -50,7 +50,7 @@ add-real-if c =
 
 -- src/lib.rt:177:9
 real-if-requires : tie.Need-real-if-requires
-real-if-requires c κs = 
+real-if-requires c κs =
     let k = c .before in
     let s = k .before .before .before .before in
     let h = sref-room (s .args .fl) (s .args .f .now) (s .args .at) (s .args .size) (s .pre) (k .before .before .after .ensures) (k .before .after2 .ensures) (k .after3 .ensures) in
@@ -58,7 +58,7 @@ real-if-requires c κs =
 
 -- src/lib.rt:178:29
 add-real-if-2 : tie.Need-add-real-if-2
-add-real-if-2 c = 
+add-real-if-2 c =
     let k = c .before .before in
     let s = k .before .before .before .before in
     let h = sref-room (s .args .fl) (s .args .f .now) (s .args .at) (s .args .size) (s .pre) (k .before .before .after .ensures) (k .before .after2 .ensures) (k .after3 .ensures) in
@@ -66,7 +66,7 @@ add-real-if-2 c =
 
 -- src/lib.rt:178:9
 real-if-requires-2 : tie.Need-real-if-requires-2
-real-if-requires-2 c κs = 
+real-if-requires-2 c κs =
     let k = c .before .before in
     let s = k .before .before .before .before in
     let h = sref-room (s .args .fl) (s .args .f .now) (s .args .at) (s .args .size) (s .pre) (k .before .before .after .ensures) (k .before .after2 .ensures) (k .after3 .ensures) in
@@ -74,7 +74,7 @@ real-if-requires-2 c κs =
 
 -- src/lib.rt:179:9
 array-if-requires : tie.Need-array-if-requires
-array-if-requires c κs = 
+array-if-requires c κs =
     let k = c .before .before .before in
     let s = k .before .before .before .before in
     let h = sref-room (s .args .fl) (s .args .f .now) (s .args .at) (s .args .size) (s .pre) (k .before .before .after .ensures) (k .before .after2 .ensures) (k .after3 .ensures) in
@@ -82,7 +82,7 @@ array-if-requires c κs =
 
 -- src/lib.rt:180:27
 add-text-at : tie.Need-add-text-at
-add-text-at c = 
+add-text-at c =
     let k = c .before .before .before .before in
     let s = k .before .before .before .before in
     let h = sref-room (s .args .fl) (s .args .f .now) (s .args .at) (s .args .size) (s .pre) (k .before .before .after .ensures) (k .before .after2 .ensures) (k .after3 .ensures) in
@@ -90,7 +90,7 @@ add-text-at c =
 
 -- src/lib.rt:180:38
 sub-text-at : tie.Need-sub-text-at
-sub-text-at c = 
+sub-text-at c =
     let k = c .before .before .before .before in
     let s = k .before .before .before .before in
     let h = sref-room (s .args .fl) (s .args .f .now) (s .args .at) (s .args .size) (s .pre) (k .before .before .after .ensures) (k .before .after2 .ensures) (k .after3 .ensures) in
@@ -98,14 +98,14 @@ sub-text-at c =
 
 -- src/lib.rt:180:9
 text-at-requires : tie.Need-text-at-requires
-text-at-requires c κs = 
+text-at-requires c κs =
     let k = c .before .before .before .before in
     let s = k .before .before .before .before in
     name-place (s .args .fl) (s .args .f .now) (s .args .at) (s .args .size) (s .pre) (k .before .before .after .ensures) (k .before .after2 .ensures) (k .after3 .ensures)
 
 -- src/lib.rt:166:1
 returns : tie.Need-returns
-returns c = 
+returns c =
     let k = c .before .before .before .before .before in
     let s = k .before .before .before .before in
     sref-by (s .args .fl) (s .args .f .now) (s .args .at) (s .args .size) (s .pre) (k .before .before .after .ensures) (k .before .after2 .ensures) (k .after3 .ensures)

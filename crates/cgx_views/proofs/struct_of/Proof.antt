@@ -44,7 +44,7 @@ text-at-requires c κs = c .before .before .before .pre
 -- src/lib.rt:80:1
 returns : tie.Need-returns
 unfolding fieldValues valuesAt layout piecesAt width values value
-returns c = 
+returns c =
     let s = c .before .before .before .before in
     c .before .before .date-at .ensures then c .before .date-at2 .ensures then c .text-at .ensures then refl
 

@@ -49,7 +49,7 @@ text-at-requires c κs = c .before .before .before .pre
 -- src/lib.rt:151:1
 returns : tie.Need-returns
 unfolding fieldValues valuesAt layout piecesAt width values value
-returns c = 
+returns c =
     let s = c .before .before .before .before in
     long-value (s .args .f .now) (s .args .at + 4) (omega arith) (c .before .before .point-at .ensures .0) then second-value (s .args .f .now) (s .args .at + 4) (s .args .at + 8) (omega arith) (omega arith) (c .before .before .point-at .ensures .1) then long-value (s .args .f .now) (s .args .at + 12) (omega arith) (back w32 (c .before .long-at .ok) ∙ c .before .long-at .ensures) then c .text-at .ensures then refl
 

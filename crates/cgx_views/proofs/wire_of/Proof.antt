@@ -40,7 +40,7 @@ repeat-of-requires c κs = omega arith
 -- src/lib.rt:142:1
 returns : tie.Need-returns
 unfolding fieldValues valuesAt layout piecesAt width values value
-returns c = 
+returns c =
     let s = c .before .before .before in
     long-value (s .args .f .now) (s .args .at + 4) (omega arith) (back w32 (c .before .long-at .ok) ∙ c .before .long-at .ensures) then repeat-value 8 (s .args .f .now) (s .args .at + 8) (s .args .size - 8) (c .repeat-of .result) (c .repeat-of .ensures) then refl
 

@@ -73,7 +73,7 @@ loop-less c = let h = held (c .before .before .before .before .before .before .b
 
 loop-again : tie.Need-loop-again Inv-loop μ-loop
 loop-again c =
-    let h = held (c .before .before .before .before .before .before .before .before .before .before .before .args .file .now) (c .before .before .before .before .before .before .before .before .before .before .before .args .place .context) (c .before .before .before .before .before .before .loop .at) (c .before .before .before .before .before .step-at .ensures) (c .before .before .before .found2 .given .1) in let a = h .least in let i = h .inside in 
+    let h = held (c .before .before .before .before .before .before .before .before .before .before .before .args .file .now) (c .before .before .before .before .before .before .before .before .before .before .before .args .place .context) (c .before .before .before .before .before .before .loop .at) (c .before .before .before .before .before .step-at .ensures) (c .before .before .before .found2 .given .1) in let a = h .least in let i = h .inside in
     (omega arith, omega arith, c .before .before .before .before .before .before .loop .inv .2 ∙ from-unknown (c .before .before .before .before .before .before .before .before .before .before .before .args .file .now) (c .before .before .before .before .before .before .before .before .before .before .before .args .place .context) (c .before .before .before .before .before .before .loop .at) (c .before .before .before .before .before .step-at .ensures) (c .before .before .before .found2 .given .1) (omega arith))
 
 pub step-spec : {M : Type 1} → statement M

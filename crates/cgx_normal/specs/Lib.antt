@@ -1,0 +1,2 @@
+-- What the normal-form maker answers and leaves.
+pub mod Made
