@@ -324,7 +324,7 @@ module _ (f out : List ℕ) where
   made-refused e = (sym (ap (λ (v : Verdict). made v f (length out)) e), sym (ap (λ (v : Verdict). left v f out) e))
 
   module _ (e : verdictOf f ≡ accepted) where
-    by-room : (b : Bool) → roomFor f (length out) ≡ b → (cond b (Length (length (normalForm f))) (Refused 14 Nowhere) ≡ madeOf f (length out)) × (cond b (normalForm f ++ drop (length (normalForm f)) out) out ≡ leftIn f out)
+    pub by-room : (b : Bool) → roomFor f (length out) ≡ b → (cond b (Length (length (normalForm f))) (Refused 14 Nowhere) ≡ madeOf f (length out)) × (cond b (normalForm f ++ drop (length (normalForm f)) out) out ≡ leftIn f out)
     unfolding madeOf leftIn
     by-room b r = (
       sym (ap (λ (v : Verdict). made v f (length out)) e ∙ ap (λ (x : Bool). cond x (Length (length (normalForm f))) (Refused 14 Nowhere)) r),

@@ -170,14 +170,7 @@ pub fn next_context(c: Context, at: usize, k: Kind) -> Context
             run: Run::Empty,
             ended: false,
         },
-        Kind::Struct => Context {
-            library: c.library,
-            cell: Offset::At(at),
-            layer: Offset::Nowhere,
-            fresh: true,
-            run: Run::Empty,
-            ended: false,
-        },
+        Kind::Struct => open_cell(c, at),
         Kind::Cprpty => Context {
             library: c.library,
             cell,
@@ -218,6 +211,22 @@ pub fn next_context(c: Context, at: usize, k: Kind) -> Context
     }
 }
 
+// STRUCT opens a cell and clears the layer.
+fn open_cell(c: Context, at: usize) -> Context
+    ensures { λ r. ⌜ r ≡ next c at (some Kind.Struct) ⌝ }
+{
+    let cell = Offset::At(at);
+    let layer = Offset::Nowhere;
+    Context {
+        library: c.library,
+        cell,
+        layer,
+        fresh: true,
+        run: Run::Empty,
+        ended: false,
+    }
+}
+
 fn longer_run(r: Run, at: usize) -> Run
     requires { ⌜ waiting r < 18446744073709551615 ⌝ }
     ensures { λ v. ⌜ v ≡ longer r at ⌝ }
@@ -240,12 +249,13 @@ fn after_object(c: Context) -> Context
 {
     let cell = c.cell;
     let layer = c.layer;
+    let taken = Run::Empty;
     Context {
         library: c.library,
         cell,
         layer,
         fresh: false,
-        run: Run::Empty,
+        run: taken,
         ended: false,
     }
 }

@@ -2,7 +2,7 @@
 use mathlib.Core.Path.{_≡_, refl, sym, ap, ap₂, _∙_}
 use mathlib.Core.Bool.{true}
 use mathlib.Core.List.{List, [], _∷_, _++_, append-nil}
-use Prim.Native.Nat.{ℕ, _+_, _*_, _≤_}
+use Prim.Native.Nat.{ℕ, _+_, _*_, _-_, _≤_}
 use native.Mathlib.Omega.{arith}
 use lib.IntN.{ℤ, pos}
 use lib.ListN.{length, take, drop, getD, length-drop}
@@ -14,11 +14,13 @@ use Rattle.cgx_spec.specs.Dates.{dateOf}
 use Rattle.cgx_spec.specs.Fields.{real, date, string, optional, Value, missing, exactly, numbers, value}
 use Rattle.cgx_spec.proofs.Promises.{promises}
 use Rattle.cgx_numbers.proofs.Parts.{part}
+use Rattle.cgx_kinds.specs.declared.Name.{Name}
+use Rattle.cgx_kinds.specs.declared.Name.the-variants.{Absent, Present}
 use Rattle.cgx_kinds.specs.declared.Point.{Point}
 use Rattle.cgx_kinds.specs.declared.Repeat.{Repeat}
 use Rattle.cgx_kinds.specs.declared.Array.the-variants.{Of}
 use Rattle.cgx_kinds.specs.Meant.{one, pointNumbers, dateNumbers, repeatNumbers, arrayValues}
-use Rattle.cgx_views.specs.Views.{StringAt, arrayIf, ArrayIs}
+use Rattle.cgx_views.specs.Views.{NameIn, StringAt, arrayIf, ArrayIs}
 
 -- ---- a list of values, one after another
 
@@ -106,3 +108,7 @@ a-name f at len s e = e ∙ go (take len (drop at f)) (let l = s .least in let i
     go : (b : List ℕ) → 2 ≤ length b → value string b ≡ value optional b
     go [] h = absurd (omega arith)
     go (x ∷ b) h = refl
+
+pub name-in : (at o size : ℕ) (n : Name) → o ≤ size → NameIn (at + o + (size - o)) n → NameIn (at + size) n
+name-in at o size Absent l h = tt
+name-in at o size (Present s) l h = omega arith

@@ -20,7 +20,7 @@ use Rattle.cgx_kinds.specs.declared.OptionalReal.{OptionalReal}
 use Rattle.cgx_kinds.specs.declared.Array.{Array}
 use Rattle.cgx_kinds.specs.declared.Fields.the-variants.{Sref}
 use Rattle.cgx_kinds.specs.Meant.{one, spanText, optionalValue, arrayValues, fieldValues}
-use Rattle.cgx_views.specs.Views.{Readable, piecesAt, valuesAt, StringAt, magnifOffset, arrayOffset, nameOffset, srefName, realIf, arrayIf, ArrayIs}
+use Rattle.cgx_views.specs.Views.{Readable, SpanIn, FieldsIn, ReadAt, piecesAt, valuesAt, StringAt, magnifOffset, arrayOffset, nameOffset, srefName, realIf, arrayIf, ArrayIs}
 use Rattle.cgx_views.proofs.Parts.{_then_, long-value, second-value}
 use Rattle.cgx_views.proofs.Ready.{sized, texts-kept, string-from}
 
@@ -80,75 +80,71 @@ sref-ready {fl} {f} {at} {size} r =
 
 -- ---- with the offsets that code has computed
 
--- the offsets are small, and the name stands behind all others
-pub record Places (a m r : Bool) (x g n : ℕ) : Type 0 where
-  pub second : x ≤ 20
-  pub third : g ≤ 28
-  pub last : n ≤ 52
-  pub behind : 12 ≤ n
-  pub angle-in : a ≡ true → 20 ≤ n
-  pub magnif-in : m ≡ true → x + 8 ≤ n
-  pub array-in : r ≡ true → g + 24 ≤ n
-  pub second-in : x ≤ n
-  pub third-in : g ≤ n
-
 never : {A : Type 0} → false ≡ true → A
 never q = absurd (subst (λ (v : Bool). T (not v)) q tt)
 
-pub after-second : (a : Bool) {x : ℕ} → x ≡ cond a 20 12 → (12 ≤ x) × (x ≤ 20) × (a ≡ true → 20 ≤ x)
-after-second true e = (omega arith, omega arith, λ q. omega arith)
-after-second false e = (omega arith, omega arith, never)
+-- where the next field begins, w bytes behind o or at o
+pub after-is : (v : Bool) (o w : ℕ) {x : ℕ} → x ≡ cond v (o + w) o → (o ≤ x) × (x ≤ o + w) × (v ≡ true → o + w ≤ x)
+after-is true o w e = (omega arith, omega arith, λ q. omega arith)
+after-is false o w e = (omega arith, omega arith, never)
 
-pub after-next : (v : Bool) (o w : ℕ) {x : ℕ} → x ≡ cond v (o + w) o → (o ≤ x) × (x ≤ o + w) × (v ≡ true → o + w ≤ x)
-after-next true o w e = (omega arith, omega arith, λ q. omega arith)
-after-next false o w e = (omega arith, omega arith, never)
+-- the magnif stands at x, the array at g, the name at n, one behind another and all of them inside the file
+pub record Room (fl : ℕ) (f : List ℕ) (at size x g n : ℕ) : Type 0 where
+  pub second-is : x ≡ magnifOffset (angle fl)
+  pub third-is : g ≡ arrayOffset (angle fl) (magnif fl)
+  pub last-is : n ≡ srefName fl
+  pub name : StringAt f (at + n) (size - n)
+  pub first : 12 ≤ x
+  pub second : x ≤ g
+  pub third : g ≤ n
+  pub last : n ≤ 52
+  pub ending : n + 2 ≤ size
+  pub inside : at + size ≤ length f
+  pub angle-in : angle fl ≡ true → 20 ≤ n
+  pub magnif-in : magnif fl ≡ true → x + 8 ≤ n
+  pub array-in : array fl ≡ true → g + 24 ≤ n
 
-module _ (a m r : Bool) {x g n : ℕ} (ex : x ≡ cond a 20 12) (eg : g ≡ cond m (x + 8) x) (en : n ≡ cond r (g + 24) g) where
-  pub places : Places a m r x g n
-  places =
-      let s = after-second a ex in
-      let t = after-next m x 8 eg in
-      let l = after-next r g 24 en in
+module _ (fl : ℕ) (f : List ℕ) (at size : ℕ) (s : StringAt f (at + srefName fl) (size - srefName fl)) {x g n : ℕ} where
+  pub sref-room : x ≡ cond (angle fl) 20 12 → g ≡ cond (magnif fl) (x + 8) x → n ≡ cond (array fl) (g + 24) g → Room fl f at size x g n
+  sref-room ex eg en =
+      let t : g ≡ arrayOffset (angle fl) (magnif fl) = eg ∙ ap (λ (k : ℕ). cond (magnif fl) (k + 8) k) ex in
+      let l : n ≡ srefName fl = en ∙ ap (λ (k : ℕ). cond (array fl) (k + 24) k) t in
+      let q : StringAt f (at + n) (size - n) = subst (λ (k : ℕ). StringAt f (at + k) (size - k)) (sym l) s in
+      let i = q .inside in
+      let e = q .least in
+      let a = after-is (angle fl) 12 8 ex in
+      let m = after-is (magnif fl) x 8 eg in
+      let r = after-is (array fl) g 24 en in
       record {
+        second-is = ex;
+        third-is = t;
+        last-is = l;
+        name = q;
+        first = omega arith;
         second = omega arith;
         third = omega arith;
         last = omega arith;
-        behind = omega arith;
-        angle-in = λ q. omega (arith, s .2 q);
-        magnif-in = λ q. omega (arith, t .2 q);
-        array-in = λ q. omega (arith, l .2 q);
-        second-in = omega arith;
-        third-in = omega arith;
+        ending = omega arith;
+        inside = omega arith;
+        angle-in = λ q. omega (arith, a .2 q);
+        magnif-in = λ q. omega (arith, m .2 q);
+        array-in = λ q. omega (arith, r .2 q);
       }
 
-  pub third-is : g ≡ arrayOffset a m
-  third-is = eg ∙ ap (λ (k : ℕ). cond m (k + 8) k) ex
-
-  pub last-is : n ≡ nameOffset a m r
-  last-is = en ∙ ap (λ (k : ℕ). cond r (k + 24) k) third-is
-
-module _ (fl : ℕ) (f : List ℕ) (at size : ℕ) (s : StringAt f (at + srefName fl) (size - srefName fl)) {x g n : ℕ} (ex : x ≡ cond (angle fl) 20 12) (eg : g ≡ cond (magnif fl) (x + 8) x) (en : n ≡ cond (array fl) (g + 24) g) where
-  -- the name's place, and that of all others before it
-  pub name-place : StringAt f (at + n) (size - n)
-  name-place = subst (λ (k : ℕ). StringAt f (at + k) (size - k)) (sym (last-is (angle fl) (magnif fl) (array fl) ex eg en)) s
-
-  pub sref-room : Places (angle fl) (magnif fl) (array fl) x g n × (at + size ≤ length f) × (n + 2 ≤ size)
-  sref-room =
-      let q = name-place .inside in
-      let l = name-place .least in
-      (places (angle fl) (magnif fl) (array fl) ex eg en, omega arith, omega arith)
-
-  pub sref-by : (p : Point) (a b : OptionalReal) (d : Array) (t : Span)
-      → (p .x ≡ longOf (take 4 (drop (at + 4) f))) × (p .y ≡ longOf (take 4 (drop (at + 4 + 4) f)))
-      → optionalValue a ≡ realIf (angle fl) f (at + 12) → optionalValue b ≡ realIf (magnif fl) f (at + x) → ArrayIs (array fl) f at g d
-      → spanText f t ≡ value string (take (size - n) (drop (at + n) f))
-      → fieldValues f (Sref (record { at = p; angle = a; magnif = b; array = d; name = t })) ≡ valuesAt sref fl f at size
-  unfolding fieldValues valuesAt layout
-  sref-by p a b d t ep ea eb ed et =
-      let h = sref-room in
-      (long-value f (at + 4) (omega arith) (ep .0) then second-value f (at + 4) (at + 8) (omega arith) (omega arith) (ep .1) then ea
-      then (eb ∙ ap (λ (k : ℕ). realIf (magnif fl) f (at + k)) ex)
-      then (ap (λ (v : Value). arrayValues d (v ∷ missing ∷ [])) (et ∙ ap (λ (k : ℕ). value string (tail f at size k)) (last-is (angle fl) (magnif fl) (array fl) ex eg en))
-      ∙ ed (value string (tail f at size (srefName fl)) ∷ missing ∷ [])
-      ∙ ap (λ (k : ℕ). arrayIf (array fl) f at k (value string (tail f at size (srefName fl)) ∷ missing ∷ [])) (third-is (angle fl) (magnif fl) (array fl) ex eg en)))
-      ∙ sym (by-flags f at size (angle fl) (magnif fl) (array fl))
+pub sref-by : {fl : ℕ} {f : List ℕ} {at size x g n : ℕ} → Room fl f at size x g n → (p : Point) (a b : OptionalReal) (d : Array) (t : Span)
+    → (p .x ≡ longOf (take 4 (drop (at + 4) f))) × (p .y ≡ longOf (take 4 (drop (at + 4 + 4) f)))
+    → optionalValue a ≡ realIf (angle fl) f (at + 12) → optionalValue b ≡ realIf (magnif fl) f (at + x) → ArrayIs (array fl) f at g d
+    → (spanText f t ≡ value string (take (size - n) (drop (at + n) f))) × SpanIn (at + n + (size - n)) t
+    → ReadAt sref fl f at size (Sref (record { at = p; angle = a; magnif = b; array = d; name = t }))
+unfolding FieldsIn fieldValues valuesAt layout
+sref-by {fl} {f} {at} {size} h p a b d t ep ea eb ed et =
+    let last = value string (tail f at size (srefName fl)) ∷ missing ∷ [] in
+    record {
+      inside = omega arith;
+      meant =
+          (long-value f (at + 4) (omega arith) (ep .0) then second-value f (at + 4) (at + 8) (omega arith) (omega arith) (ep .1) then ea
+          then (eb ∙ ap (λ (k : ℕ). realIf (magnif fl) f (at + k)) (h .second-is))
+          then (ap (λ (v : Value). arrayValues d (v ∷ missing ∷ [])) (et .0 ∙ ap (λ (k : ℕ). value string (tail f at size k)) (h .last-is)) ∙ ed last
+          ∙ ap (λ (k : ℕ). arrayIf (array fl) f at k last) (h .third-is)))
+          ∙ sym (by-flags f at size (angle fl) (magnif fl) (array fl));
+    }

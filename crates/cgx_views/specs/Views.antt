@@ -2,7 +2,7 @@
 use mathlib.Core.Path.{_≡_}
 use mathlib.Core.Bool.{Bool, true, cond}
 use mathlib.Core.List.{List, [], _∷_}
-use Prim.Native.Nat.{ℕ, _+_, _-_, _≤_}
+use Prim.Native.Nat.{ℕ, _+_, _*_, _-_, _≤_}
 use lib.ListN.{length, take, drop}
 use Rattle.cgx_spec.specs.declared.Kind.{Kind}
 use Rattle.cgx_spec.specs.Numbers.{longsOf}
@@ -10,8 +10,14 @@ use Rattle.cgx_spec.specs.Strings.{goodString}
 use Rattle.cgx_spec.specs.Fields.{Field, real, absent, Value, missing, numbers, value, width, Piece, pieces, lengthsFit, keeps, values}
 use Rattle.cgx_spec.specs.Kinds.{angle, magnif, array, layout}
 use Rattle.cgx_spec.specs.Walking.{Held, recAt}
+use Rattle.cgx_kinds.specs.declared.Span.{Span}
+use Rattle.cgx_kinds.specs.declared.Name.{Name}
+use Rattle.cgx_kinds.specs.declared.Name.the-variants.{Absent, Present}
+use Rattle.cgx_kinds.specs.declared.Repeat.{Repeat}
 use Rattle.cgx_kinds.specs.declared.Array.{Array}
-use Rattle.cgx_kinds.specs.Meant.{arrayValues}
+use Rattle.cgx_kinds.specs.declared.Fields.{Fields}
+use Rattle.cgx_kinds.specs.declared.Fields.the-variants.{Library, Struct, Cprpty, Property, Layer, Box, Poly, Wire, Text, Sref, Endlib}
+use Rattle.cgx_kinds.specs.Meant.{arrayValues, fieldValues}
 
 -- A record whose fields have lengths that they may have (rule 8), and whose strings are good (rule 11).
 pub record Readable (k : Kind) (fl : ℕ) (f : List ℕ) (at size : ℕ) : Type 0 where
@@ -30,6 +36,36 @@ piecesAt f at size (x ∷ xs) o =
 -- Their values, behind the four bytes of the header.
 unfoldable pub valuesAt : Kind → ℕ → List ℕ → ℕ → ℕ → List Value
 valuesAt k fl f at size = values (piecesAt f at size (layout k fl) 4)
+
+-- ---- the parts of the file that fields name end at byte e or before
+
+abbrev pub SpanIn : ℕ → Span → Type 0
+SpanIn e s = s .at + s .len ≤ e
+
+abbrev pub NameIn : ℕ → Name → Type 0
+NameIn e Absent = Unit {0}
+NameIn e (Present s) = SpanIn e s
+
+abbrev pub RepeatIn : ℕ → ℕ → Repeat → Type 0
+RepeatIn u e r = r .first + u * r .count ≤ e
+
+unfoldable pub FieldsIn : ℕ → Fields → Type 0
+FieldsIn e (Library l) = SpanIn e (l .name)
+FieldsIn e (Struct s) = SpanIn e (s .name)
+FieldsIn e (Cprpty p) = SpanIn e (p .value)
+FieldsIn e (Property p) = SpanIn e (p .value)
+FieldsIn e (Layer l) = NameIn e (l .name)
+FieldsIn e (Box b) = RepeatIn 16 e (b .boxes)
+FieldsIn e (Poly p) = RepeatIn 8 e (p .points)
+FieldsIn e (Wire w) = RepeatIn 8 e (w .points)
+FieldsIn e (Text t) = SpanIn e (t .label)
+FieldsIn e (Sref s) = SpanIn e (s .name)
+FieldsIn e Endlib = Unit {0}
+
+-- What the reader of a kind answers.
+pub record ReadAt (k : Kind) (fl : ℕ) (f : List ℕ) (at size : ℕ) (r : Fields) : Type 0 where
+  pub meant : fieldValues f r ≡ valuesAt k fl f at size
+  pub inside : FieldsIn (at + size) r
 
 -- ---- strings
 

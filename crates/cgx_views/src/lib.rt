@@ -35,12 +35,14 @@ ghost use Rattle.cgx_spec.specs.Fields.{real, date, string, optional, exactly, 
 ghost use Rattle.cgx_spec.specs.Kinds.{layout};
 ghost use Rattle.cgx_spec.specs.Walking.{recAt};
 ghost use Rattle.cgx_kinds.specs.Meant.{spanText, nameText, dateNumbers, optionalValue, fieldValues};
-ghost use Rattle.cgx_views.specs.Views.{Readable, valuesAt, StringAt, OptionalAt, srefName, realIf, ArrayIs};
+ghost use Rattle.cgx_views.specs.Views.{Readable, FieldsIn, ReadAt, SpanIn, NameIn, StringAt, OptionalAt, srefName, realIf, ArrayIs};
 
-// The fields of the record of `size` bytes at `at`, of this kind and with these flags.
+// The fields of the record of `size` bytes at `at`, of this kind and with these flags. The parts of the file that they name
+// lie inside the record.
 pub fn fields_of(f: &[u8], k: Kind, fl: u8, at: usize, size: usize) -> Fields
     requires { ⌜ Readable k fl (now f) at size ⌝ }
     ensures { λ r. ⌜ fieldValues (now (f .entry)) r ≡ values (pieces (layout k fl) (recAt (now (f .entry)) at size .body)) ⌝ }
+    ensures inside { λ r. ⌜ FieldsIn (at + size) r ⌝ }
 {
     match k {
         Kind::Library => library_of(f, at, size),
@@ -61,7 +63,7 @@ pub fn fields_of(f: &[u8], k: Kind, fl: u8, at: usize, size: usize) -> Fields
 
 fn library_of(f: &[u8], at: usize, size: usize) -> Fields
     requires { ⌜ StringAt (now f) (at + 36) (size - 36) ⌝ }
-    ensures { λ r. ⌜ fieldValues (now (f .entry)) r ≡ valuesAt Kind.Library 0 (now (f .entry)) at size ⌝ }
+    ensures { λ r. ⌜ ReadAt Kind.Library 0 (now (f .entry)) at size r ⌝ }
 {
     let munit = real_at(f, at + 4);
     let uunit = real_at(f, at + 12);
@@ -79,7 +81,7 @@ fn library_of(f: &[u8], at: usize, size: usize) -> Fields
 
 fn struct_of(f: &[u8], at: usize, size: usize) -> Fields
     requires { ⌜ StringAt (now f) (at + 20) (size - 20) ⌝ }
-    ensures { λ r. ⌜ fieldValues (now (f .entry)) r ≡ valuesAt Kind.Struct 0 (now (f .entry)) at size ⌝ }
+    ensures { λ r. ⌜ ReadAt Kind.Struct 0 (now (f .entry)) at size r ⌝ }
 {
     let created = date_at(f, at + 4);
     let modified = date_at(f, at + 12);
@@ -93,7 +95,7 @@ fn struct_of(f: &[u8], at: usize, size: usize) -> Fields
 
 fn cprpty_of(f: &[u8], at: usize, size: usize) -> Fields
     requires { ⌜ StringAt (now f) (at + 8) (size - 8) ⌝ }
-    ensures { λ r. ⌜ fieldValues (now (f .entry)) r ≡ valuesAt Kind.Cprpty 0 (now (f .entry)) at size ⌝ }
+    ensures { λ r. ⌜ ReadAt Kind.Cprpty 0 (now (f .entry)) at size r ⌝ }
 {
     let number = long_at(f, at + 4);
     let value = text_at(f, at + 8, size - 8);
@@ -102,7 +104,7 @@ fn cprpty_of(f: &[u8], at: usize, size: usize) -> Fields
 
 fn property_of(f: &[u8], at: usize, size: usize) -> Fields
     requires { ⌜ StringAt (now f) (at + 8) (size - 8) ⌝ }
-    ensures { λ r. ⌜ fieldValues (now (f .entry)) r ≡ valuesAt Kind.Property 0 (now (f .entry)) at size ⌝ }
+    ensures { λ r. ⌜ ReadAt Kind.Property 0 (now (f .entry)) at size r ⌝ }
 {
     let number = long_at(f, at + 4);
     let value = text_at(f, at + 8, size - 8);
@@ -111,7 +113,7 @@ fn property_of(f: &[u8], at: usize, size: usize) -> Fields
 
 fn layer_of(f: &[u8], at: usize, size: usize) -> Fields
     requires { ⌜ (8 ≤ size) × OptionalAt (now f) (at + 8) (size - 8) ⌝ }
-    ensures { λ r. ⌜ fieldValues (now (f .entry)) r ≡ valuesAt Kind.Layer 0 (now (f .entry)) at size ⌝ }
+    ensures { λ r. ⌜ ReadAt Kind.Layer 0 (now (f .entry)) at size r ⌝ }
 {
     let number = short_at(f, at + 4);
     let datatype = short_at(f, at + 6);
@@ -125,7 +127,7 @@ fn layer_of(f: &[u8], at: usize, size: usize) -> Fields
 
 fn box_of(f: &[u8], at: usize, size: usize) -> Fields
     requires { ⌜ (4 ≤ size) × (at + size ≤ length (now f)) × ((size - 4) % 16 ≡ 0) ⌝ }
-    ensures { λ r. ⌜ fieldValues (now (f .entry)) r ≡ valuesAt Kind.Box 0 (now (f .entry)) at size ⌝ }
+    ensures { λ r. ⌜ ReadAt Kind.Box 0 (now (f .entry)) at size r ⌝ }
 {
     let boxes = repeat_of(at + 4, size - 4, Boxes::BOX_SIZE);
     Fields::Box(Boxes { boxes })
@@ -133,7 +135,7 @@ fn box_of(f: &[u8], at: usize, size: usize) -> Fields
 
 fn poly_of(f: &[u8], at: usize, size: usize) -> Fields
     requires { ⌜ (4 ≤ size) × (at + size ≤ length (now f)) × ((size - 4) % 8 ≡ 0) ⌝ }
-    ensures { λ r. ⌜ fieldValues (now (f .entry)) r ≡ valuesAt Kind.Poly 0 (now (f .entry)) at size ⌝ }
+    ensures { λ r. ⌜ ReadAt Kind.Poly 0 (now (f .entry)) at size r ⌝ }
 {
     let points = repeat_of(at + 4, size - 4, Poly::PAIR_SIZE);
     Fields::Poly(Poly { points })
@@ -141,7 +143,7 @@ fn poly_of(f: &[u8], at: usize, size: usize) -> Fields
 
 fn wire_of(f: &[u8], at: usize, size: usize) -> Fields
     requires { ⌜ (8 ≤ size) × (at + size ≤ length (now f)) × ((size - 8) % 8 ≡ 0) ⌝ }
-    ensures { λ r. ⌜ fieldValues (now (f .entry)) r ≡ valuesAt Kind.Wire 0 (now (f .entry)) at size ⌝ }
+    ensures { λ r. ⌜ ReadAt Kind.Wire 0 (now (f .entry)) at size r ⌝ }
 {
     let width = long_at(f, at + 4);
     let points = repeat_of(at + 8, size - 8, Wire::PAIR_SIZE);
@@ -150,7 +152,7 @@ fn wire_of(f: &[u8], at: usize, size: usize) -> Fields
 
 fn text_of(f: &[u8], at: usize, size: usize) -> Fields
     requires { ⌜ StringAt (now f) (at + 16) (size - 16) ⌝ }
-    ensures { λ r. ⌜ fieldValues (now (f .entry)) r ≡ valuesAt Kind.Text 0 (now (f .entry)) at size ⌝ }
+    ensures { λ r. ⌜ ReadAt Kind.Text 0 (now (f .entry)) at size r ⌝ }
 {
     let anchor = point_at(f, at + 4);
     let width = long_at(f, at + 12);
@@ -165,7 +167,7 @@ fn text_of(f: &[u8], at: usize, size: usize) -> Fields
 // An angle stands if flag 1 does, a magnif if 2, an array if 8; what follows is that much further on.
 fn sref_of(f: &[u8], fl: u8, at: usize, size: usize) -> Fields
     requires { ⌜ StringAt (now f) (at + srefName fl) (size - srefName fl) ⌝ }
-    ensures { λ r. ⌜ fieldValues (now (f .entry)) r ≡ valuesAt Kind.Sref fl (now (f .entry)) at size ⌝ }
+    ensures { λ r. ⌜ ReadAt Kind.Sref fl (now (f .entry)) at size r ⌝ }
 {
     let turned = fl % 2 == 1;
     let scaled = fl / 2 % 2 == 1;
@@ -223,7 +225,7 @@ fn point_at(f: &[u8], at: usize) -> Point
 // A good string ends in one zero byte or in two, so that its last two bytes tell where its text ends.
 fn text_at(f: &[u8], at: usize, len: usize) -> Span
     requires { ⌜ StringAt (now f) at len ⌝ }
-    ensures { λ r. ⌜ spanText (now (f .entry)) r ≡ value string (take len (drop at (now (f .entry)))) ⌝ }
+    ensures { λ r. ⌜ (spanText (now (f .entry)) r ≡ value string (take len (drop at (now (f .entry))))) × SpanIn (at + len) r ⌝ }
 {
     let n = len - 2;
     if f[at + n] == 0 {
@@ -234,7 +236,7 @@ fn text_at(f: &[u8], at: usize, len: usize) -> Span
 
 fn name_at(f: &[u8], at: usize, len: usize) -> Name
     requires { ⌜ OptionalAt (now f) at len ⌝ }
-    ensures { λ r. ⌜ nameText (now (f .entry)) r ≡ value optional (take len (drop at (now (f .entry)))) ⌝ }
+    ensures { λ r. ⌜ (nameText (now (f .entry)) r ≡ value optional (take len (drop at (now (f .entry))))) × NameIn (at + len) r ⌝ }
 {
     if len == 0 {
         return Name::Absent;

@@ -11,8 +11,10 @@ use Rattle.cgx_spec.specs.Files.{opening}
 use Rattle.cgx_spec.specs.Kinds.{kindOf}
 use Rattle.cgx_spec.specs.Order.{next}
 use Rattle.cgx_spec.specs.Records.{Placed, viewOf}
-use Rattle.cgx_spec.specs.Walking.{firstPlace, Answer, seen, done, refusedAt, recAt}
+use Rattle.cgx_spec.specs.Walking.{firstPlace, Answer, seen, done, refusedAt, stepOf, recAt}
 use Rattle.cgx_kinds.specs.Meant.{viewMeant}
+use Rattle.cgx_kinds.specs.declared.View.{View}
+use Rattle.cgx_views.specs.Views.{FieldsIn}
 use Rattle.cgx_records.specs.Faults.{waiting}
 use Rattle.cgx_steps.specs.Steps.{Good}
 use Rattle.cgx_walk.specs.declared.Started.{Started}
@@ -40,6 +42,18 @@ HandsBack p (Record v q) = Unit {0}
 HandsBack p Done = Unit {0}
 HandsBack p (Refused n o q) = q ≡ p
 
+-- The spans and lists of a view lie inside the record, which ends at the new place: so their counts are the bytes' own.
+abbrev pub Inside : Outcome → Type 0
+Inside (Record v q) = FieldsIn (q .at) (v .fields)
+Inside Done = Unit {0}
+Inside (Refused n o q) = Unit {0}
+
+-- What a step promises of its answer.
+pub record StepMade (f : List ℕ) (p : Place) (r : Outcome) : Type 0 where
+  pub means : answerMeant f r ≡ stepOf f p
+  pub back : HandsBack p r
+  pub inside : Inside r
+
 -- ---- a known record that a step has found
 
 -- A good record of kind k stands at an offset, and one more PROPERTY can be counted.
@@ -50,6 +64,11 @@ pub record Found (f : List ℕ) (c : Context) (at n : ℕ) (k : Kind) : Type 0 w
 
 abbrev pub placedAt : List ℕ → Context → ℕ → ℕ → Placed
 placedAt f c at n = record { at = at; context = c; rec = recAt f at n }
+
+-- What is promised of its view.
+pub record Viewed (f : List ℕ) (c : Context) (at n : ℕ) (k : Kind) (v : View) : Type 0 where
+  pub means : viewMeant f v ≡ viewOf k (placedAt f c at n)
+  pub inside : FieldsIn (at + n) (v .fields)
 
 -- Its view, and the place after it.
 abbrev pub foundMeant : List ℕ → Context → ℕ → ℕ → Kind → Answer

@@ -5,10 +5,8 @@ ghost use mathlib.Core.Option.{some};
 ghost use mathlib.Core.List.{List};
 ghost use Prim.Native.Nat.{ℕ};
 ghost use Rattle.cgx_spec.specs.Order.{isObject, next};
-ghost use Rattle.cgx_spec.specs.Records.{viewOf};
-ghost use Rattle.cgx_spec.specs.Walking.{ending, stepOf};
-ghost use Rattle.cgx_kinds.specs.Meant.{viewMeant};
-ghost use Rattle.cgx_walk.specs.Walk.{startOf, answerMeant, HandsBack, Found, placedAt, foundMeant};
+ghost use Rattle.cgx_spec.specs.Walking.{ending};
+ghost use Rattle.cgx_walk.specs.Walk.{startOf, answerMeant, HandsBack, Inside, StepMade, Found, Viewed, foundMeant};
 use cgx_kinds::View;
 use cgx_places::is_forged;
 use cgx_records::kind_of;
@@ -56,7 +54,7 @@ pub fn start(file: &[u8]) -> Started
 
 // One step: unknown records are skipped, and a refusal behind them names the bad record.
 pub fn step(file: &[u8], place: Place) -> Outcome
-    ensures { λ r. ⌜ (answerMeant (now (file .entry)) r ≡ stepOf (now (file .entry)) place) × HandsBack place r ⌝ }
+    ensures { λ r. ⌜ StepMade (now (file .entry)) place r ⌝ }
 {
     if is_forged(file.len(), place) {
         return Outcome::Refused {
@@ -86,7 +84,7 @@ pub fn step(file: &[u8], place: Place) -> Outcome
 
 // The end of a walk: done, or refused at the place of the refusal.
 fn ended(v: Verdict, place: Place) -> Outcome
-    ensures { λ r. ⌜ ((f : List ℕ) → answerMeant f r ≡ ending v) × HandsBack place r ⌝ }
+    ensures { λ r. ⌜ ((f : List ℕ) → answerMeant f r ≡ ending v) × HandsBack place r × Inside r ⌝ }
 {
     match v {
         Verdict::Accepted => Outcome::Done,
@@ -101,7 +99,7 @@ fn ended(v: Verdict, place: Place) -> Outcome
 // The good record of n bytes and kind k at an offset, and the place after it.
 fn known(file: &[u8], c: Context, at: usize, n: usize, k: Kind) -> Outcome
     requires { ⌜ Found (now file) c at n k ⌝ }
-    ensures { λ r. ⌜ (answerMeant (now (file .entry)) r ≡ foundMeant (now (file .entry)) c at n k) × ((p : Place) → HandsBack p r) ⌝ }
+    ensures { λ r. ⌜ (answerMeant (now (file .entry)) r ≡ foundMeant (now (file .entry)) c at n k) × ((p : Place) → HandsBack p r) × Inside r ⌝ }
 {
     let after = next_context(c, at, k);
     let v = view_at(file, c, at, n, k, after);
@@ -116,7 +114,7 @@ fn known(file: &[u8], c: Context, at: usize, n: usize, k: Kind) -> Outcome
 
 fn view_at(file: &[u8], c: Context, at: usize, n: usize, k: Kind, after: Context) -> View
     requires { ⌜ Found (now file) c at n k × (after ≡ next c at (some k)) ⌝ }
-    ensures { λ r. ⌜ viewMeant (now (file .entry)) r ≡ viewOf k (placedAt (now (file .entry)) c at n) ⌝ }
+    ensures { λ r. ⌜ Viewed (now (file .entry)) c at n k r ⌝ }
 {
     let flags = file[at + 3];
     let fields = fields_of(file, k, flags, at, n);

@@ -58,13 +58,16 @@ after-object-requires-5 c κs = search needs
 enum-told-11 : tie.Need-enum-told-11
 enum-told-11 c = search needs
 
+open-cell-requires : tie.Need-open-cell-requires
+open-cell-requires c κs = search needs
+
 returns : tie.Need-returns
 unfolding next
 returns c = rw (c .enum-told .given .1)
 
 returns-2 : tie.Need-returns-2
 unfolding next
-returns-2 c = rw (c .enum-told2 .given .1)
+returns-2 c = rw (c .before .enum-told2 .given .1) (c .open-cell .ensures)
 
 returns-3 : tie.Need-returns-3
 unfolding next
@@ -108,6 +111,7 @@ next-context-spec =
     (tie.spec
     enum-told
     enum-told-2
+    open-cell-requires
     enum-told-3
     enum-told-4
     longer-run-requires

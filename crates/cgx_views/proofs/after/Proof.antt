@@ -3,18 +3,13 @@ use mathlib.Core.Path.{refl}
 use borrow.Author.Needs.{needs}
 use Rattle.cgx_views.proofs.after.Statement.{statement}
 use Rattle.cgx_views.proofs.after.Tie as tie
-use Rattle.cgx_views.proofs.after.Reads as reads
-use Rattle.cgx_views.proofs.after.Lts as lts
 
--- src/lib.rt:264:17
 add-result : tie.Need-add-result
 add-result c = search needs
 
--- src/lib.rt:260:1
 returns : tie.Need-returns
 returns c = rw (c .if1 .taken) refl
 
--- src/lib.rt:260:1
 returns-2 : tie.Need-returns-2
 returns-2 c = rw (c .if1 .left) refl
 

@@ -9,56 +9,40 @@ use Rattle.cgx_views.proofs.Parts.{array-value}
 use borrow.Author.Needs.{needs}
 use Rattle.cgx_views.proofs.array_if.Statement.{statement}
 use Rattle.cgx_views.proofs.array_if.Tie as tie
-use Rattle.cgx_views.proofs.array_if.Reads as reads
-use Rattle.cgx_views.proofs.array_if.Lts as lts
-use Rattle.cgx_numbers.proofs.long_at.Reads as long-at-reads
-use Rattle.cgx_views.proofs.point_at.Reads as point-at-reads
 
--- src/lib.rt:283:31
 add-long-at : tie.Need-add-long-at
 add-long-at c = omega (arith, c .before .before .pre .1 (c .if1 .taken))
 
--- src/lib.rt:283:13
 long-at-requires : tie.Need-long-at-requires
 long-at-requires c κs = omega (arith, c .before .before .pre .1 (c .if1 .taken))
 
--- src/lib.rt:284:37
 add-long-at-2 : tie.Need-add-long-at-2
 add-long-at-2 c = search needs
 
--- src/lib.rt:284:31
 add-long-at-3 : tie.Need-add-long-at-3
 add-long-at-3 c = omega (arith, c .before .before .before .pre .1 (c .before .if1 .taken))
 
--- src/lib.rt:284:13
 long-at-requires-2 : tie.Need-long-at-requires-2
 long-at-requires-2 c κs = omega (arith, c .before .before .before .pre .1 (c .before .if1 .taken))
 
--- src/lib.rt:285:40
 add-point-at : tie.Need-add-point-at
 add-point-at c = search needs
 
--- src/lib.rt:285:34
 add-point-at-2 : tie.Need-add-point-at-2
 add-point-at-2 c = omega (arith, c .before .before .before .before .pre .1 (c .before .before .if1 .taken))
 
--- src/lib.rt:285:13
 point-at-requires : tie.Need-point-at-requires
 point-at-requires c κs = omega (arith, c .before .before .before .before .pre .1 (c .before .before .if1 .taken))
 
--- src/lib.rt:286:36
 add-point-at-3 : tie.Need-add-point-at-3
 add-point-at-3 c = search needs
 
--- src/lib.rt:286:30
 add-point-at-4 : tie.Need-add-point-at-4
 add-point-at-4 c = omega (arith, c .before .before .before .before .before .pre .1 (c .before .before .before .if1 .taken))
 
--- src/lib.rt:286:13
 point-at-requires-2 : tie.Need-point-at-requires-2
 point-at-requires-2 c κs = omega (arith, c .before .before .before .before .before .pre .1 (c .before .before .before .if1 .taken))
 
--- src/lib.rt:287:9
 returns : tie.Need-returns
 returns c =
     let b = c .before .before .before in
@@ -67,7 +51,6 @@ returns c =
     rw t
     (array-value (s .args .f .now) (s .args .at) (s .args .o) (s .pre .1 t) (back w32 (b .long-at .ok) ∙ b .long-at .ensures) (back w32 (c .before .before .long-at2 .ok) ∙ c .before .before .long-at2 .ensures) (c .before .point-at .ensures) (c .point-at2 .ensures))
 
--- src/lib.rt:278:1
 returns-2 : tie.Need-returns-2
 unfolding arrayValues arrayIf
 returns-2 c = λ vs. rw (c .if1 .left) refl

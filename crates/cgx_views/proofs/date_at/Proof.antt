@@ -7,55 +7,40 @@ use Rattle.cgx_views.proofs.Parts.{date-value}
 use borrow.Author.Needs.{needs}
 use Rattle.cgx_views.proofs.date_at.Statement.{statement}
 use Rattle.cgx_views.proofs.date_at.Tie as tie
-use Rattle.cgx_views.proofs.date_at.Reads as reads
-use Rattle.cgx_views.proofs.date_at.Lts as lts
-use Rattle.cgx_numbers.proofs.short_at.Reads as short-at-reads
 
--- src/lib.rt:206:15
 short-at-requires : tie.Need-short-at-requires
 short-at-requires c κs = search needs
 
--- src/lib.rt:207:18
 add-t4 : tie.Need-add-t4
 add-t4 c = search needs
 
--- src/lib.rt:207:16
 shared-slice-read-t6 : tie.Need-shared-slice-read-t6
 shared-slice-read-t6 c = search needs
 
--- src/lib.rt:208:16
 add-t7 : tie.Need-add-t7
 add-t7 c = search needs
 
--- src/lib.rt:208:14
 shared-slice-read-t9 : tie.Need-shared-slice-read-t9
 shared-slice-read-t9 c = search needs
 
--- src/lib.rt:209:17
 add-t10 : tie.Need-add-t10
 add-t10 c = search needs
 
--- src/lib.rt:209:15
 shared-slice-read-t12 : tie.Need-shared-slice-read-t12
 shared-slice-read-t12 c = search needs
 
--- src/lib.rt:210:19
 add-t13 : tie.Need-add-t13
 add-t13 c = search needs
 
--- src/lib.rt:210:17
 shared-slice-read-t15 : tie.Need-shared-slice-read-t15
 shared-slice-read-t15 c = search needs
 
--- src/lib.rt:211:19
 add-t16 : tie.Need-add-t16
 add-t16 c = search needs
 
--- src/lib.rt:211:17
 shared-slice-read-t18 : tie.Need-shared-slice-read-t18
 shared-slice-read-t18 c = search needs
 
--- src/lib.rt:201:1
 returns : tie.Need-returns
 returns c =
     let b = c .before .before .before .before .before in

@@ -4,161 +4,117 @@ use borrow.Author.Needs.{needs}
 use Rattle.cgx_spec.specs.Fields.{values, value}
 use Rattle.cgx_spec.specs.Kinds.{layout}
 use Rattle.cgx_kinds.specs.Meant.{fieldValues}
-use Rattle.cgx_views.specs.Views.{piecesAt, valuesAt}
+use Rattle.cgx_views.specs.Views.{FieldsIn, piecesAt, valuesAt}
 use Rattle.cgx_views.proofs.Ready.{told, meant-at, library-ready, struct-ready, cprpty-ready, property-ready, layer-ready, box-ready, poly-ready, wire-ready, text-ready}
 use Rattle.cgx_views.proofs.Srefs.{sref-ready}
 use Rattle.cgx_views.proofs.fields_of.Statement.{statement}
 use Rattle.cgx_views.proofs.fields_of.Tie as tie
-use Rattle.cgx_views.proofs.fields_of.Reads as reads
-use Rattle.cgx_views.proofs.fields_of.Lts as lts
-use Rattle.cgx_views.proofs.box_of.Reads as box-of-reads
-use Rattle.cgx_views.proofs.cprpty_of.Reads as cprpty-of-reads
-use Rattle.cgx_views.proofs.layer_of.Reads as layer-of-reads
-use Rattle.cgx_views.proofs.library_of.Reads as library-of-reads
-use Rattle.cgx_views.proofs.poly_of.Reads as poly-of-reads
-use Rattle.cgx_views.proofs.property_of.Reads as property-of-reads
-use Rattle.cgx_views.proofs.sref_of.Reads as sref-of-reads
-use Rattle.cgx_views.proofs.struct_of.Reads as struct-of-reads
-use Rattle.cgx_views.proofs.text_of.Reads as text-of-reads
-use Rattle.cgx_views.proofs.wire_of.Reads as wire-of-reads
 
--- src/lib.rt:46:26
 enum-told : tie.Need-enum-told
 enum-told c = search needs
 
--- src/lib.rt:46:26
 library-of-requires : tie.Need-library-of-requires
 library-of-requires c κs = library-ready (told (c .enum-told .given .1) (c .before .before .before .pre))
 
--- src/lib.rt:47:25
 enum-told-2 : tie.Need-enum-told-2
 enum-told-2 c = search needs
 
--- src/lib.rt:47:25
 struct-of-requires : tie.Need-struct-of-requires
 struct-of-requires c κs = struct-ready (told (c .enum-told2 .given .1) (c .before .before .before .pre))
 
--- src/lib.rt:48:25
 enum-told-3 : tie.Need-enum-told-3
 enum-told-3 c = search needs
 
--- src/lib.rt:48:25
 cprpty-of-requires : tie.Need-cprpty-of-requires
 cprpty-of-requires c κs = cprpty-ready (told (c .enum-told3 .given .1) (c .before .before .before .pre))
 
--- src/lib.rt:49:27
 enum-told-4 : tie.Need-enum-told-4
 enum-told-4 c = search needs
 
--- src/lib.rt:49:27
 property-of-requires : tie.Need-property-of-requires
 property-of-requires c κs = property-ready (told (c .enum-told4 .given .1) (c .before .before .before .pre))
 
--- src/lib.rt:50:24
 enum-told-5 : tie.Need-enum-told-5
 enum-told-5 c = search needs
 
--- src/lib.rt:50:24
 layer-of-requires : tie.Need-layer-of-requires
 layer-of-requires c κs = layer-ready (told (c .enum-told5 .given .1) (c .before .before .before .pre))
 
--- src/lib.rt:51:22
 enum-told-6 : tie.Need-enum-told-6
 enum-told-6 c = search needs
 
--- src/lib.rt:51:22
 box-of-requires : tie.Need-box-of-requires
 box-of-requires c κs = box-ready (told (c .enum-told6 .given .1) (c .before .before .before .pre))
 
--- src/lib.rt:52:23
 enum-told-7 : tie.Need-enum-told-7
 enum-told-7 c = search needs
 
--- src/lib.rt:52:23
 poly-of-requires : tie.Need-poly-of-requires
 poly-of-requires c κs = poly-ready (told (c .enum-told7 .given .1) (c .before .before .before .pre))
 
--- src/lib.rt:53:23
 enum-told-8 : tie.Need-enum-told-8
 enum-told-8 c = search needs
 
--- src/lib.rt:53:23
 wire-of-requires : tie.Need-wire-of-requires
 wire-of-requires c κs = wire-ready (told (c .enum-told8 .given .1) (c .before .before .before .pre))
 
--- src/lib.rt:54:23
 enum-told-9 : tie.Need-enum-told-9
 enum-told-9 c = search needs
 
--- src/lib.rt:54:23
 text-of-requires : tie.Need-text-of-requires
 text-of-requires c κs = text-ready (told (c .enum-told9 .given .1) (c .before .before .before .pre))
 
--- src/lib.rt:55:23
 enum-told-10 : tie.Need-enum-told-10
 enum-told-10 c = search needs
 
--- src/lib.rt:55:23
 sref-of-requires : tie.Need-sref-of-requires
 sref-of-requires c κs = sref-ready (told (c .enum-told10 .given .1) (c .before .before .before .pre))
 
--- src/lib.rt:56:25
 enum-told-11 : tie.Need-enum-told-11
 enum-told-11 c = search needs
 
--- src/lib.rt:41:1
 returns : tie.Need-returns
 unfolding valuesAt layout
-returns c = let r = told (c .before .enum-told .given .1) (c .before .before .before .before .pre) in rw (c .before .enum-told .given .1) (c .library-of .ensures ∙ meant-at r)
+returns c = let r = told (c .before .enum-told .given .1) (c .before .before .before .before .pre) in (rw (c .before .enum-told .given .1) (c .library-of .ensures .meant ∙ meant-at r), c .library-of .ensures .inside)
 
--- src/lib.rt:41:1
 returns-2 : tie.Need-returns-2
 unfolding valuesAt layout
-returns-2 c = let r = told (c .before .enum-told2 .given .1) (c .before .before .before .before .pre) in rw (c .before .enum-told2 .given .1) (c .struct-of .ensures ∙ meant-at r)
+returns-2 c = let r = told (c .before .enum-told2 .given .1) (c .before .before .before .before .pre) in (rw (c .before .enum-told2 .given .1) (c .struct-of .ensures .meant ∙ meant-at r), c .struct-of .ensures .inside)
 
--- src/lib.rt:41:1
 returns-3 : tie.Need-returns-3
 unfolding valuesAt layout
-returns-3 c = let r = told (c .before .enum-told3 .given .1) (c .before .before .before .before .pre) in rw (c .before .enum-told3 .given .1) (c .cprpty-of .ensures ∙ meant-at r)
+returns-3 c = let r = told (c .before .enum-told3 .given .1) (c .before .before .before .before .pre) in (rw (c .before .enum-told3 .given .1) (c .cprpty-of .ensures .meant ∙ meant-at r), c .cprpty-of .ensures .inside)
 
--- src/lib.rt:41:1
 returns-4 : tie.Need-returns-4
 unfolding valuesAt layout
-returns-4 c = let r = told (c .before .enum-told4 .given .1) (c .before .before .before .before .pre) in rw (c .before .enum-told4 .given .1) (c .property-of .ensures ∙ meant-at r)
+returns-4 c = let r = told (c .before .enum-told4 .given .1) (c .before .before .before .before .pre) in (rw (c .before .enum-told4 .given .1) (c .property-of .ensures .meant ∙ meant-at r), c .property-of .ensures .inside)
 
--- src/lib.rt:41:1
 returns-5 : tie.Need-returns-5
 unfolding valuesAt layout
-returns-5 c = let r = told (c .before .enum-told5 .given .1) (c .before .before .before .before .pre) in rw (c .before .enum-told5 .given .1) (c .layer-of .ensures ∙ meant-at r)
+returns-5 c = let r = told (c .before .enum-told5 .given .1) (c .before .before .before .before .pre) in (rw (c .before .enum-told5 .given .1) (c .layer-of .ensures .meant ∙ meant-at r), c .layer-of .ensures .inside)
 
--- src/lib.rt:41:1
 returns-6 : tie.Need-returns-6
 unfolding valuesAt layout
-returns-6 c = let r = told (c .before .enum-told6 .given .1) (c .before .before .before .before .pre) in rw (c .before .enum-told6 .given .1) (c .box-of .ensures ∙ meant-at r)
+returns-6 c = let r = told (c .before .enum-told6 .given .1) (c .before .before .before .before .pre) in (rw (c .before .enum-told6 .given .1) (c .box-of .ensures .meant ∙ meant-at r), c .box-of .ensures .inside)
 
--- src/lib.rt:41:1
 returns-7 : tie.Need-returns-7
 unfolding valuesAt layout
-returns-7 c = let r = told (c .before .enum-told7 .given .1) (c .before .before .before .before .pre) in rw (c .before .enum-told7 .given .1) (c .poly-of .ensures ∙ meant-at r)
+returns-7 c = let r = told (c .before .enum-told7 .given .1) (c .before .before .before .before .pre) in (rw (c .before .enum-told7 .given .1) (c .poly-of .ensures .meant ∙ meant-at r), c .poly-of .ensures .inside)
 
--- src/lib.rt:41:1
 returns-8 : tie.Need-returns-8
 unfolding valuesAt layout
-returns-8 c = let r = told (c .before .enum-told8 .given .1) (c .before .before .before .before .pre) in rw (c .before .enum-told8 .given .1) (c .wire-of .ensures ∙ meant-at r)
+returns-8 c = let r = told (c .before .enum-told8 .given .1) (c .before .before .before .before .pre) in (rw (c .before .enum-told8 .given .1) (c .wire-of .ensures .meant ∙ meant-at r), c .wire-of .ensures .inside)
 
--- src/lib.rt:41:1
 returns-9 : tie.Need-returns-9
 unfolding valuesAt layout
-returns-9 c = let r = told (c .before .enum-told9 .given .1) (c .before .before .before .before .pre) in rw (c .before .enum-told9 .given .1) (c .text-of .ensures ∙ meant-at r)
+returns-9 c = let r = told (c .before .enum-told9 .given .1) (c .before .before .before .before .pre) in (rw (c .before .enum-told9 .given .1) (c .text-of .ensures .meant ∙ meant-at r), c .text-of .ensures .inside)
 
--- src/lib.rt:41:1
 returns-10 : tie.Need-returns-10
-returns-10 c = let r = told (c .before .enum-told10 .given .1) (c .before .before .before .before .pre) in rw (c .before .enum-told10 .given .1) (c .sref-of .ensures ∙ meant-at r)
+returns-10 c = let r = told (c .before .enum-told10 .given .1) (c .before .before .before .before .pre) in (rw (c .before .enum-told10 .given .1) (c .sref-of .ensures .meant ∙ meant-at r), c .sref-of .ensures .inside)
 
--- src/lib.rt:41:1
 returns-11 : tie.Need-returns-11
-unfolding fieldValues valuesAt layout piecesAt values value
-returns-11 c = let r = told (c .enum-told11 .given .1) (c .before .before .before .pre) in rw (c .enum-told11 .given .1) (meant-at r)
+unfolding FieldsIn fieldValues valuesAt layout piecesAt values value
+returns-11 c = let r = told (c .enum-told11 .given .1) (c .before .before .before .pre) in (rw (c .enum-told11 .given .1) (meant-at r), tt)
 
 pub fields-of-spec : {M : Type 1} → statement M
 fields-of-spec =

@@ -1,37 +1,34 @@
 -- `cgx_views::poly_of` is right: the repeat is the whole body. Assumes nothing.
-use mathlib.Core.Path.{refl, ap, _∙_}
+use mathlib.Core.Path.{refl}
 use native.Mathlib.Omega.{arith}
 use Rattle.cgx_spec.specs.Fields.{width, value, values}
 use Rattle.cgx_spec.specs.Kinds.{layout}
 use Rattle.cgx_kinds.specs.Meant.{fieldValues}
-use Rattle.cgx_views.specs.Views.{piecesAt, valuesAt}
+use Rattle.cgx_views.specs.Views.{FieldsIn, piecesAt, valuesAt}
 use Prim.Native.Nat.{_+_, _-_}
 use Rattle.cgx_views.proofs.Parts.{_then_, repeat-value}
-use borrow.Author.Needs.{needs}
 use Rattle.cgx_views.proofs.poly_of.Statement.{statement}
 use Rattle.cgx_views.proofs.poly_of.Tie as tie
-use Rattle.cgx_views.proofs.poly_of.Reads as reads
-use Rattle.cgx_views.proofs.poly_of.Lts as lts
-use Rattle.cgx_views.proofs.repeat_of.Reads as repeat-of-reads
 
--- src/lib.rt:138:28
 add-repeat-of : tie.Need-add-repeat-of
 add-repeat-of c = omega arith
 
--- src/lib.rt:138:36
 sub-repeat-of : tie.Need-sub-repeat-of
 sub-repeat-of c = omega arith
 
--- src/lib.rt:138:9
 repeat-of-requires : tie.Need-repeat-of-requires
 repeat-of-requires c κs = omega arith
 
--- src/lib.rt:134:1
 returns : tie.Need-returns
-unfolding fieldValues valuesAt layout piecesAt width values value
+unfolding FieldsIn fieldValues valuesAt layout piecesAt width values value
 returns c =
     let s = c .before .before in
-    repeat-value 8 (s .args .f .now) (s .args .at + 4) (s .args .size - 4) (c .repeat-of .result) (c .repeat-of .ensures) then refl
+    record {
+      meant =
+          repeat-value 8 (s .args .f .now) (s .args .at + 4) (s .args .size - 4) (c .repeat-of .result) (c .repeat-of .ensures)
+          then refl;
+      inside = omega arith;
+    }
 
 pub poly-of-spec : {M : Type 1} → statement M
 poly-of-spec = tie.close (tie.spec add-repeat-of sub-repeat-of repeat-of-requires returns)

@@ -1,6 +1,5 @@
 -- `cgx_views::real_at` is right: the answer of the eight bytes has their value. Assumes nothing.
 use mathlib.Core.Path.{_≡_, ap, _∙_}
-use mathlib.Core.List.{List}
 use Prim.Native.Nat.{ℕ, _+_, _-_}
 use native.Mathlib.Omega.{arith}
 use lib.ListN.{take, drop}
@@ -10,31 +9,22 @@ use Rattle.cgx_views.proofs.Parts.{real-value}
 use borrow.Author.Needs.{needs}
 use Rattle.cgx_views.proofs.real_at.Statement.{statement}
 use Rattle.cgx_views.proofs.real_at.Tie as tie
-use Rattle.cgx_views.proofs.real_at.Reads as reads
-use Rattle.cgx_views.proofs.real_at.Lts as lts
-use Rattle.cgx_reals.proofs.read_real.Reads as read-real-reads
 
--- src/lib.rt:197:15
 add-end : tie.Need-add-end
 add-end c = search needs
 
--- src/lib.rt:198:15
 sub-read-real : tie.Need-sub-read-real
 sub-read-real c = search needs
 
--- src/lib.rt:198:15
 part-read-real-start : tie.Need-part-read-real-start
 part-read-real-start c = search needs
 
--- src/lib.rt:198:15
 part-read-real-end : tie.Need-part-read-real-end
 part-read-real-end c = search needs
 
--- src/lib.rt:198:5
 read-real-requires : tie.Need-read-real-requires
 read-real-requires c κs = search needs
 
--- src/lib.rt:193:1
 returns : tie.Need-returns
 returns c =
     let s = c .before .before .before .args in

@@ -6,14 +6,10 @@ use native.Mathlib.Nat.{div-add-mod', mul-comm}
 use borrow.Author.Needs.{needs}
 use Rattle.cgx_views.proofs.repeat_of.Statement.{statement}
 use Rattle.cgx_views.proofs.repeat_of.Tie as tie
-use Rattle.cgx_views.proofs.repeat_of.Reads as reads
-use Rattle.cgx_views.proofs.repeat_of.Lts as lts
 
--- src/lib.rt:253:16
 div-t4 : tie.Need-div-t4
 div-t4 c = search needs
 
--- src/lib.rt:247:1
 returns : tie.Need-returns
 returns c =
     let len = c .args .len in

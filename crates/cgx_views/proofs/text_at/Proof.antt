@@ -1,34 +1,27 @@
 -- `cgx_views::text_at` is right: a good string has two zero bytes behind its text where its last byte but one is zero, else one. Assumes nothing.
+use native.Mathlib.Omega.{arith}
 use Rattle.cgx_views.proofs.Texts.{two-zeros, one-zero}
 use borrow.Author.Needs.{needs}
 use Rattle.cgx_views.proofs.text_at.Statement.{statement}
 use Rattle.cgx_views.proofs.text_at.Tie as tie
-use Rattle.cgx_views.proofs.text_at.Reads as reads
-use Rattle.cgx_views.proofs.text_at.Lts as lts
 
--- src/lib.rt:229:13
 sub-n : tie.Need-sub-n
 sub-n c = search needs
 
--- src/lib.rt:230:10
 add-if1 : tie.Need-add-if1
 add-if1 c = search needs
 
--- src/lib.rt:230:8
 shared-slice-read-if1 : tie.Need-shared-slice-read-if1
 shared-slice-read-if1 c = search needs
 
--- src/lib.rt:231:9
 returns : tie.Need-returns
-returns c = let s = c .before .before in two-zeros (s .args .f .now) (s .args .at) (s .args .len) (s .pre) (c .if1 .taken)
+returns c = let s = c .before .before in (two-zeros (s .args .f .now) (s .args .at) (s .args .len) (s .pre) (c .if1 .taken), omega arith)
 
--- src/lib.rt:233:21
 add-t5 : tie.Need-add-t5
 add-t5 c = search needs
 
--- src/lib.rt:225:1
 returns-2 : tie.Need-returns-2
-returns-2 c = let s = c .before .before in one-zero (s .args .f .now) (s .args .at) (s .args .len) (s .pre) (c .if1 .left)
+returns-2 c = let s = c .before .before in (one-zero (s .args .f .now) (s .args .at) (s .args .len) (s .pre) (c .if1 .left), omega arith)
 
 pub text-at-spec : {M : Type 1} → statement M
 text-at-spec = tie.close (tie.spec sub-n add-if1 shared-slice-read-if1 returns add-t5 returns-2)

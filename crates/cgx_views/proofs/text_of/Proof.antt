@@ -1,57 +1,51 @@
 -- `cgx_views::text_of` is right: each field is read where the layout has it. Assumes nothing.
-use mathlib.Core.Path.{refl, ap, _∙_}
+use mathlib.Core.Path.{refl, _∙_}
 use native.Mathlib.Omega.{arith}
 use Rattle.cgx_spec.specs.Fields.{width, value, values}
 use Rattle.cgx_spec.specs.Kinds.{layout}
 use Rattle.cgx_kinds.specs.Meant.{fieldValues}
-use Rattle.cgx_views.specs.Views.{piecesAt, valuesAt}
-use Prim.Native.Nat.{_+_, _-_}
+use Rattle.cgx_views.specs.Views.{FieldsIn, piecesAt, valuesAt}
+use Prim.Native.Nat.{_+_}
 use mir.Syntax.{w32}
 use Rattle.cgx_numbers.proofs.Signed.{back}
 use Rattle.cgx_views.proofs.Parts.{_then_, long-value, second-value}
-use borrow.Author.Needs.{needs}
 use Rattle.cgx_views.proofs.text_of.Statement.{statement}
 use Rattle.cgx_views.proofs.text_of.Tie as tie
-use Rattle.cgx_views.proofs.text_of.Reads as reads
-use Rattle.cgx_views.proofs.text_of.Lts as lts
-use Rattle.cgx_numbers.proofs.long_at.Reads as long-at-reads
-use Rattle.cgx_views.proofs.point_at.Reads as point-at-reads
-use Rattle.cgx_views.proofs.text_at.Reads as text-at-reads
 
--- src/lib.rt:155:30
 add-point-at : tie.Need-add-point-at
 add-point-at c = omega arith
 
--- src/lib.rt:155:9
 point-at-requires : tie.Need-point-at-requires
 point-at-requires c κs = omega arith
 
--- src/lib.rt:156:28
 add-long-at : tie.Need-add-long-at
 add-long-at c = omega arith
 
--- src/lib.rt:156:9
 long-at-requires : tie.Need-long-at-requires
 long-at-requires c κs = omega arith
 
--- src/lib.rt:157:28
 add-text-at : tie.Need-add-text-at
 add-text-at c = omega arith
 
--- src/lib.rt:157:37
 sub-text-at : tie.Need-sub-text-at
 sub-text-at c = omega arith
 
--- src/lib.rt:157:9
 text-at-requires : tie.Need-text-at-requires
 text-at-requires c κs = c .before .before .before .pre
 
--- src/lib.rt:151:1
 returns : tie.Need-returns
-unfolding fieldValues valuesAt layout piecesAt width values value
+unfolding FieldsIn fieldValues valuesAt layout piecesAt width values value
 returns c =
     let s = c .before .before .before .before in
-    long-value (s .args .f .now) (s .args .at + 4) (omega arith) (c .before .before .point-at .ensures .0) then second-value (s .args .f .now) (s .args .at + 4) (s .args .at + 8) (omega arith) (omega arith) (c .before .before .point-at .ensures .1) then long-value (s .args .f .now) (s .args .at + 12) (omega arith) (back w32 (c .before .long-at .ok) ∙ c .before .long-at .ensures) then c .text-at .ensures then refl
+    record {
+      meant =
+          long-value (s .args .f .now) (s .args .at + 4) (omega arith) (c .before .before .point-at .ensures .0)
+          then second-value (s .args .f .now) (s .args .at + 4) (s .args .at + 8) (omega arith) (omega arith) (c .before .before .point-at .ensures .1)
+          then long-value (s .args .f .now) (s .args .at + 12) (omega arith) (back w32 (c .before .long-at .ok) ∙ c .before .long-at .ensures)
+          then c .text-at .ensures .0
+          then refl;
+      inside = omega arith;
+    }
 
 pub text-of-spec : {M : Type 1} → statement M
 text-of-spec =

@@ -1,48 +1,43 @@
 -- `cgx_views::wire_of` is right: the width is read where the layout has it, and the repeat is what follows. Assumes nothing.
-use mathlib.Core.Path.{refl, ap, _∙_}
+use mathlib.Core.Path.{refl, _∙_}
 use native.Mathlib.Omega.{arith}
 use Rattle.cgx_spec.specs.Fields.{width, value, values}
 use Rattle.cgx_spec.specs.Kinds.{layout}
 use Rattle.cgx_kinds.specs.Meant.{fieldValues}
-use Rattle.cgx_views.specs.Views.{piecesAt, valuesAt}
+use Rattle.cgx_views.specs.Views.{FieldsIn, piecesAt, valuesAt}
 use Prim.Native.Nat.{_+_, _-_}
 use mir.Syntax.{w32}
 use Rattle.cgx_numbers.proofs.Signed.{back}
 use Rattle.cgx_views.proofs.Parts.{_then_, long-value, repeat-value}
-use borrow.Author.Needs.{needs}
 use Rattle.cgx_views.proofs.wire_of.Statement.{statement}
 use Rattle.cgx_views.proofs.wire_of.Tie as tie
-use Rattle.cgx_views.proofs.wire_of.Reads as reads
-use Rattle.cgx_views.proofs.wire_of.Lts as lts
-use Rattle.cgx_numbers.proofs.long_at.Reads as long-at-reads
-use Rattle.cgx_views.proofs.repeat_of.Reads as repeat-of-reads
 
--- src/lib.rt:146:28
 add-long-at : tie.Need-add-long-at
 add-long-at c = omega arith
 
--- src/lib.rt:146:9
 long-at-requires : tie.Need-long-at-requires
 long-at-requires c κs = omega arith
 
--- src/lib.rt:147:28
 add-repeat-of : tie.Need-add-repeat-of
 add-repeat-of c = omega arith
 
--- src/lib.rt:147:36
 sub-repeat-of : tie.Need-sub-repeat-of
 sub-repeat-of c = omega arith
 
--- src/lib.rt:147:9
 repeat-of-requires : tie.Need-repeat-of-requires
 repeat-of-requires c κs = omega arith
 
--- src/lib.rt:142:1
 returns : tie.Need-returns
-unfolding fieldValues valuesAt layout piecesAt width values value
+unfolding FieldsIn fieldValues valuesAt layout piecesAt width values value
 returns c =
     let s = c .before .before .before in
-    long-value (s .args .f .now) (s .args .at + 4) (omega arith) (back w32 (c .before .long-at .ok) ∙ c .before .long-at .ensures) then repeat-value 8 (s .args .f .now) (s .args .at + 8) (s .args .size - 8) (c .repeat-of .result) (c .repeat-of .ensures) then refl
+    record {
+      meant =
+          long-value (s .args .f .now) (s .args .at + 4) (omega arith) (back w32 (c .before .long-at .ok) ∙ c .before .long-at .ensures)
+          then repeat-value 8 (s .args .f .now) (s .args .at + 8) (s .args .size - 8) (c .repeat-of .result) (c .repeat-of .ensures)
+          then refl;
+      inside = omega arith;
+    }
 
 pub wire-of-spec : {M : Type 1} → statement M
 wire-of-spec =

@@ -1,0 +1,3 @@
+-- Laws: `Stands`, the test of an index, which the proofs of functions cite; `Agree`, for callers: what is read by an index or a span is what a view says.
+pub mod Stands
+pub mod Agree
