@@ -25,6 +25,7 @@ use Rattle.cgx_spec.specs.Written.{Sized}
 use Rattle.cgx_spec.proofs.Chain.{State, stateOf, may, then, Chain, file-sound}
 use Rattle.cgx_spec.proofs.Demand3.{unknown-kind}
 use Rattle.cgx_spec.proofs.Lists.{true→T, allBelow, at-each}
+use Rattle.cgx_spec.proofs.Normal.{rules-kept}
 use Rattle.cgx_spec.proofs.Pieces.{fit, length-normalBytes}
 use Rattle.cgx_put.specs.Put.{put}
 use Rattle.cgx_put.proofs.Puts.{put-nil, put-next, put-length, put-is}
@@ -83,18 +84,9 @@ abbrev pub AllFit : List Rec → Type 0
 AllFit [] = Unit {0}
 AllFit (r ∷ rs) = Sized r × FitsKind (kindOf (r .type)) r × AllFit rs
 
-first-kept : (n : ℕ) (b : Bool) (rs : List Rule) → broken (rule n b ∷ rs) ≡ none → (b ≡ true) × (broken rs ≡ none)
-unfolding broken
-first-kept n true rs e = (refl, e)
-first-kept n false rs e = absurd (let z : _≡_ {A = ℕ} 0 1 = cc in omega arith)
-
 fits-of : (s : Bool) (o : Option Kind) (r : Rec) → broken (rules s o r) ≡ none → FitsKind o r
-unfolding rules
 fits-of s none r e = tt
-fits-of s (some k) r e =
-    let e₆ = first-kept 6 s _ e in
-    let e₇ = first-kept 7 (goodFlags k (r .flags)) _ (e₆ .1) in
-    first-kept 8 (lengthsFit (piecesOf k r)) _ (e₇ .1) .0
+fits-of s (some k) r e = rules-kept s k r e .0
 
 chain-fit : (rs : List Rec) (s : State) → Chain s rs → AllFit rs
 chain-fit [] s c = tt

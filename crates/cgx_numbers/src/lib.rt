@@ -60,14 +60,18 @@ pub fn word_of(b: &[u8]) -> u64
 
 // ---- back to bytes
 
-pub fn short_bytes(n: i16) -> [u8; 2]
+pub type ShortBytes = [u8; 2];
+pub type LongBytes = [u8; 4];
+pub type WordBytes = [u8; 8];
+
+pub fn short_bytes(n: i16) -> ShortBytes
     ensures { λ r. ⌜ r ≡ shortBytes n ⌝ }
 {
     let w = short_bits(n);
     [(w / 256 % 256) as u8, (w % 256) as u8]
 }
 
-pub fn long_bytes(n: i32) -> [u8; 4]
+pub fn long_bytes(n: i32) -> LongBytes
     ensures { λ r. ⌜ r ≡ longBytes n ⌝ }
 {
     let w = long_bits(n);
@@ -79,7 +83,7 @@ pub fn long_bytes(n: i32) -> [u8; 4]
     ]
 }
 
-pub fn word_bytes(w: u64) -> [u8; 8]
+pub fn word_bytes(w: u64) -> WordBytes
     ensures { λ r. ⌜ r ≡ digits 8 w ⌝ }
 {
     [

@@ -9,6 +9,7 @@ ghost use Rattle.cgx_spec.specs.Numbers.{number};
 ghost use Rattle.cgx_spec.specs.Reals.{answer, positive, normal, positiveReal, normalReal};
 use cgx_numbers::word_bytes;
 use cgx_numbers::word_of;
+use cgx_numbers::WordBytes;
 use cgx_spec::Real;
 
 // ---- of a word
@@ -85,7 +86,7 @@ pub fn positive_bytes(b: &[u8]) -> bool
     real_positive(word_of(b))
 }
 
-pub fn normal_bytes(b: &[u8]) -> [u8; 8]
+pub fn normal_bytes(b: &[u8]) -> WordBytes
     requires { ⌜ length (now b) ≡ 8 ⌝ }
     ensures { λ r. ⌜ r ≡ normalReal (now (b .entry)) ⌝ }
 {

@@ -15,7 +15,7 @@ use Rattle.cgx_spec.specs.Kinds.{kindOf, Flags, meaningless, version, up
 use Rattle.cgx_spec.specs.Records.{Rec, piecesOf, meaningOf, normalOf, Rule, rule, broken, rules}
 use Rattle.cgx_spec.specs.Files.{known, meanings}
 use Rattle.cgx_spec.specs.Restated.{typeByte}
-use Rattle.cgx_spec.proofs.Lists.{allBelow, at-each, every-cons, and-left, and-right}
+use Rattle.cgx_spec.proofs.Lists.{T→true, allBelow, at-each, every-cons, and-left, and-right}
 use Rattle.cgx_spec.proofs.Pieces.{Fit, fit, normalPiece, pieces-normal, lengthsFit-normal, keeps-normal, values-normal}
 use Rattle.cgx_spec.proofs.Same.{normal-same}
 
@@ -141,6 +141,15 @@ broken-none : (n : ℕ) (b : Bool) (rs : List Rule) → broken (rule n b ∷ rs)
 unfolding broken
 broken-none n true rs e = (tt, e)
 broken-none n false rs e = absurd (let z : _≡_ {A = ℕ} 0 1 = cc in omega arith)
+
+-- of a record that breaks no rule, the fields fit and the strings are good
+pub rules-kept : (s : Bool) (k : Kind) (r : Rec) → broken (rules s (some k) r) ≡ none → (lengthsFit (piecesOf k r) ≡ true) × (keeps 11 (piecesOf k r) ≡ true)
+unfolding rules
+rules-kept s k r e =
+    let ps = piecesOf k r in
+    let e₈ = broken-none 8 (lengthsFit ps) _ (broken-none 7 (goodFlags k (r .flags)) _ (broken-none 6 s _ e .1) .1) in
+    let e₁₁ = broken-none 11 (keeps 11 ps) _ (broken-none 10 (keeps 10 ps) _ (broken-none 9 (keeps 9 ps) _ (e₈ .1) .1) .1) in
+    (T→true (e₈ .0), T→true (e₁₁ .0))
 
 pub keeps-rules : (s : Bool) (k : Kind) (r : Rec) → Bytes (r .body) → broken (rules s (some k) r) ≡ none → Sound (piecesOf k r)
 unfolding rules

@@ -70,7 +70,7 @@ Fit (p ∷ ps) = Bytes (p .bytes) × T (fits (p .field) (length (p .bytes))) × 
 abbrev pub normalPiece : Piece → Piece
 normalPiece p = record { field = p .field; bytes = normal (p .field) (p .bytes) }
 
-longs-full : (n lo hi : ℕ) (b : List ℕ) (z : Bool) → eqb lo hi ≡ z → T (units (4 * n) lo hi (length (take (cond z (4 * n * lo) (length b)) b))) → length (take (cond z (4 * n * lo) (length b)) b) ≡ cond z (4 * n * lo) (length b)
+pub longs-full : (n lo hi : ℕ) (b : List ℕ) (z : Bool) → eqb lo hi ≡ z → T (units (4 * n) lo hi (length (take (cond z (4 * n * lo) (length b)) b))) → length (take (cond z (4 * n * lo) (length b)) b) ≡ cond z (4 * n * lo) (length b)
 longs-full n lo hi b true e h =
     let m = length (take (4 * n * lo) b) in
     let u = units-is (4 * n) lo hi m h in
@@ -80,7 +80,7 @@ longs-full n lo hi b true e h =
 longs-full n lo hi b false e h = length-take-le (length b) b (le-refl _)
 
 -- a field that fits has taken all the bytes that it asks for
-full : (f : Field) (b : List ℕ) → T (fits f (length (take (width f (length b)) b))) → length (take (width f (length b)) b) ≡ width f (length b)
+pub full : (f : Field) (b : List ℕ) → T (fits f (length (take (width f (length b)) b))) → length (take (width f (length b)) b) ≡ width f (length b)
 unfolding fits width
 full real b h = eqb→eq _ 8 h
 full positive b h = eqb→eq _ 8 h

@@ -9,29 +9,9 @@ use lib.Dec.{T, eqb, eqb→eq}
 use lib.ListN.{length, take, drop, length-take, length-drop}
 use lib.Seq.{length-take-le, take-take, take-nil, drop-drop}
 use Rattle.cgx_spec.specs.Fields.{Field, real, positive, date, short, longs, string, optional, absent, units, fits, width, Piece, pieces, lengthsFit}
-use Rattle.cgx_spec.proofs.Lists.{true→T, units-is, every-cons}
+use Rattle.cgx_spec.proofs.Lists.{every-cons}
+use Rattle.cgx_spec.proofs.Pieces.{full}
 use Rattle.cgx_views.specs.Views.{piecesAt}
-
-longs-full : (n lo hi : ℕ) (b : List ℕ) (z : Bool) → eqb lo hi ≡ z → T (units (4 * n) lo hi (length (take (cond z (4 * n * lo) (length b)) b))) → length (take (cond z (4 * n * lo) (length b)) b) ≡ cond z (4 * n * lo) (length b)
-longs-full n lo hi b true e h =
-    let m = length (take (4 * n * lo) b) in
-    let u = units-is (4 * n) lo hi m h in
-    let l : lo ≡ hi = eqb→eq lo hi (true→T e) in
-    let q : m / (4 * n) ≡ lo = omega arith in
-    u .0 ∙ ap (λ (x : ℕ). x * (4 * n)) q ∙ mul-comm lo (4 * n)
-longs-full n lo hi b false e h = length-take-le (length b) b (le-refl _)
-
--- a field that fits has taken all the bytes that it asks for
-full : (x : Field) (b : List ℕ) → T (fits x (length (take (width x (length b)) b))) → length (take (width x (length b)) b) ≡ width x (length b)
-unfolding fits width
-full real b h = eqb→eq _ 8 h
-full positive b h = eqb→eq _ 8 h
-full date b h = eqb→eq _ 8 h
-full short b h = eqb→eq _ 2 h
-full (longs n lo hi t) b h = longs-full n lo hi b (eqb lo hi) refl h
-full string b h = length-take-le (length b) b (le-refl _)
-full optional b h = length-take-le (length b) b (le-refl _)
-full absent b h = refl
 
 room : (x : Field) (b : List ℕ) → T (fits x (length (take (width x (length b)) b))) → width x (length b) ≤ length b
 room x b h = omega (arith, full x b h, length-take (width x (length b)) b)

@@ -18,34 +18,16 @@ use Rattle.cgx_spec.specs.Walking.{recAt}
 use Rattle.cgx_kinds.specs.declared.Fields.{Fields}
 use Rattle.cgx_kinds.specs.declared.View.{View}
 use Rattle.cgx_kinds.specs.Meant.{fieldValues, viewMeant}
+use Rattle.cgx_spec.proofs.Normal.{rules-kept}
 use Rattle.cgx_views.specs.Views.{Readable}
 use Rattle.cgx_walk.specs.Walk.{Found, placedAt}
-
--- ---- what the rules say of a record that keeps them
-
-first-kept : (n : ℕ) (b : Bool) (rs : List Rule) → broken (rule n b ∷ rs) ≡ none → (b ≡ true) × (broken rs ≡ none)
-unfolding broken
-first-kept n true rs e = (refl, e)
-first-kept n false rs e = absurd (let z : _≡_ {A = ℕ} 0 1 = cc in omega arith)
-
-kept : (s : Bool) (k : Kind) (r : Rec) → broken (rules s (some k) r) ≡ none → (lengthsFit (piecesOf k r) ≡ true) × (keeps 11 (piecesOf k r) ≡ true)
-unfolding rules
-kept s k r e =
-    let ps = piecesOf k r in
-    let e₆ = first-kept 6 s _ e in
-    let e₇ = first-kept 7 (goodFlags k (r .flags)) _ (e₆ .1) in
-    let e₈ = first-kept 8 (lengthsFit ps) _ (e₇ .1) in
-    let e₉ = first-kept 9 (keeps 9 ps) _ (e₈ .1) in
-    let e₁₀ = first-kept 10 (keeps 10 ps) _ (e₉ .1) in
-    let e₁₁ = first-kept 11 (keeps 11 ps) _ (e₁₀ .1) in
-    (e₈ .0, e₁₁ .0)
 
 pub readable : (f : List ℕ) (c : Context) (at n : ℕ) (k : Kind) → Found f c at n k → Readable k (getD f (at + 3) 0) f at n
 unfolding recAt piecesOf
 readable f c at n k h =
     let r = recAt f at n in
     let e : broken (rules (allowed c (some k)) (some k) r) ≡ none = subst (λ (o : Option Kind). broken (rules (allowed c o) o r) ≡ none) (h .kind-is) (h .good .kept) in
-    let p = kept (allowed c (some k)) k r e in
+    let p = rules-kept (allowed c (some k)) k r e in
     record { held = h .good .held; fits = p .0; texts = p .1 }
 
 -- ---- the view
