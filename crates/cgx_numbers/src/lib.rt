@@ -61,7 +61,9 @@ pub fn word_of(b: &[u8]) -> u64
 // ---- back to bytes
 
 pub type ShortBytes = [u8; 2];
+
 pub type LongBytes = [u8; 4];
+
 pub type WordBytes = [u8; 8];
 
 pub fn short_bytes(n: i16) -> ShortBytes

@@ -7,9 +7,9 @@ ghost use lib.Ieee.{binary64, round};
 ghost use lib.ListN.{length};
 ghost use Rattle.cgx_spec.specs.Numbers.{number};
 ghost use Rattle.cgx_spec.specs.Reals.{answer, positive, normal, positiveReal, normalReal};
+use cgx_numbers::WordBytes;
 use cgx_numbers::word_bytes;
 use cgx_numbers::word_of;
-use cgx_numbers::WordBytes;
 use cgx_spec::Real;
 
 // ---- of a word

@@ -1,0 +1,3 @@
+pub mod Hulls
+pub mod Searches
+pub mod Examples

@@ -1,0 +1,271 @@
+-- Whether a good LAYER stands at an offset, test by test; its name; and what is shown for it. Assumes nothing.
+use mathlib.Core.Path.{_≡_, refl, sym, ap, _∙_, subst}
+use mathlib.Core.Bool.{Bool, true, false, _&&_, cond}
+use mathlib.Core.List.{List, [], _∷_}
+use Prim.Native.Nat.{ℕ, zero, suc, _+_, _-_, _%_, _≤_, _<_}
+use native.Mathlib.Omega.{arith}
+use borrow.Author.Tests.{le-leb, lt-leb, eq-eqb, ne-eqb}
+use lib.Dec.{eqb}
+use lib.ListN.{length, take, drop, getD, length-drop}
+use lib.Seq.{drop-drop, drop-at, take-add, length-take-le, getD-take, getD-drop}
+use Rattle.cgx_spec.specs.declared.Kind.the-variants.{Layer}
+use Rattle.cgx_spec.specs.Strings.{textOf}
+use Rattle.cgx_spec.specs.Fields.{ruleOf, pieces, lengthsFit, keeps}
+use Rattle.cgx_spec.specs.Kinds.{layout}
+use Rattle.cgx_spec.specs.Records.{piecesOf, rule, broken}
+use Rattle.cgx_spec.specs.Files.{found, cut}
+use Rattle.cgx_spec.specs.Walking.{recAt}
+use Rattle.cgx_spec.proofs.Lists.{true→T}
+use Rattle.cgx_bodies.specs.Bodies.{numberOr0, bodyFault}
+use Rattle.cgx_steps.specs.Steps.{cutMeant, HeadIn}
+use Rattle.cgx_steps.specs.declared.Head.{Head}
+use Rattle.cgx_steps.specs.declared.Head.the-variants.{Bad, Sized}
+use Rattle.cgx_steps.proofs.Heads.{head-3, head-held}
+use Rattle.cgx_views.specs.Views.{StringAt, OptionalAt}
+use Rattle.cgx_views.proofs.Texts.{ends}
+use Rattle.cgx_views.proofs.Ready.{layer-ready}
+use Rattle.cgx_layers.specs.declared.Shown.{Shown}
+use Rattle.cgx_layers.specs.declared.Shown.the-variants.{OfFile, OfSubstitute}
+use Rattle.cgx_layers.specs.Layers.{keptLayer, cutLayer, goodLayer, layerAnswer, nameIn, named, shownOf, shownText, shownPtr, ShownIn, LayerAt, Stands}
+
+-- ---- the rules 8 to 12 of a LAYER: 9, 10 and 12 have nothing to say
+
+abbrev first-of : Bool → Bool → ℕ
+first-of a d = numberOr0 (broken (rule 8 a ∷ rule 9 true ∷ rule 10 true ∷ rule 11 d ∷ rule 12 true ∷ []))
+
+module _ (fl : ℕ) (b : List ℕ) where
+  abbrev fit : Bool
+  fit = lengthsFit (pieces (layout Layer fl) b)
+
+  abbrev texts : Bool
+  texts = keeps 11 (pieces (layout Layer fl) b)
+
+  fault-is : bodyFault Layer fl b ≡ first-of fit texts
+  unfolding bodyFault layout pieces keeps ruleOf
+  fault-is = refl
+
+no-fault : (a d : Bool) → first-of a d ≡ 0 → (a ≡ true) × (d ≡ true)
+unfolding broken
+no-fault true true e = (refl, refl)
+no-fault true false e = absurd (omega arith)
+no-fault false d e = absurd (omega arith)
+
+a-fault : (a d : Bool) → (first-of a d ≡ 0 → ⊥) → (true && a && d) ≡ false
+unfolding broken
+a-fault true true e = absurd (e refl)
+a-fault true false e = refl
+a-fault false d e = refl
+
+-- ---- a good LAYER, test by test
+
+abbrev tests : Bool → Bool → Bool → Bool
+tests a b c = a && b && c
+
+module _ (f : List ℕ) (at : ℕ) where
+  abbrev cut-good : Bool
+  cut-good = cutLayer (cut (drop at f))
+
+  pub low : at < 4 → Stands f at 0
+  unfolding Stands goodLayer
+  low h = ap (λ (x : Bool). tests x (eqb (at % 2) 0) cut-good) (lt-leb 4 at h)
+
+  module _ (h : 4 ≤ at) where
+    from-4 : goodLayer f at ≡ tests true (eqb (at % 2) 0) cut-good
+    unfolding goodLayer
+    from-4 = ap (λ (x : Bool). tests x (eqb (at % 2) 0) cut-good) (le-leb 4 at h)
+
+    pub odd : at % 2 ≡ 1 → Stands f at 0
+    unfolding Stands
+    odd q = from-4 ∙ ap (λ (x : Bool). tests true x cut-good) (ne-eqb (at % 2) 0 (λ z. omega arith))
+
+    module _ (e : at % 2 ≡ 1 → ⊥) where
+      even : goodLayer f at ≡ cut-good
+      even = from-4 ∙ ap (λ (x : Bool). tests true x cut-good) (eq-eqb (at % 2) 0 (omega arith))
+
+      pub beyond : length f < at → Stands f at 0
+      unfolding Stands cutMeant cutLayer
+      beyond l = even ∙ ap cutLayer (head-3 f at (omega arith) .0)
+
+      module _ (hd : Head) (d : (cut (drop at f) ≡ cutMeant f at hd) × HeadIn f at hd) where
+        pub no-record : {k : ℕ} → hd ≡ Bad k → Stands f at 0
+        unfolding Stands cutMeant cutLayer
+        no-record q = even ∙ ap cutLayer (d .0 ∙ ap (cutMeant f at) q)
+
+        module _ {n : ℕ} (q : hd ≡ Sized n) where
+          abbrev body : List ℕ
+          body = take (n - 4) (drop (at + 4) f)
+
+          cut-is : cut (drop at f) ≡ found (recAt f at n) (drop (at + n) f)
+          unfolding cutMeant
+          cut-is = d .0 ∙ ap (cutMeant f at) q
+
+          by-record : goodLayer f at ≡ tests (eqb (getD f (at + 2) 0) 4) (fit (getD f (at + 3) 0) body) (texts (getD f (at + 3) 0) body)
+          unfolding cutLayer keptLayer recAt piecesOf
+          by-record = even ∙ ap cutLayer cut-is
+
+          pub other-type : (getD f (at + 2) 0 ≡ 4 → ⊥) → Stands f at 0
+          unfolding Stands
+          other-type t =
+              by-record ∙ ap (λ (x : Bool). tests x (fit (getD f (at + 3) 0) body) (texts (getD f (at + 3) 0) body)) (ne-eqb (getD f (at + 2) 0) 4 t)
+
+          module _ (t : getD f (at + 2) 0 ≡ 4) {k : ℕ} (z : k ≡ bodyFault Layer (getD f (at + 3) 0) (take (at + n - (at + 4)) (drop (at + 4) f))) where
+            fault : k ≡ first-of (fit (getD f (at + 3) 0) body) (texts (getD f (at + 3) 0) body)
+            fault =
+                let e : at + n - (at + 4) ≡ n - 4 = omega arith in
+                z ∙ ap (λ (m : ℕ). bodyFault Layer (getD f (at + 3) 0) (take m (drop (at + 4) f))) e ∙ fault-is (getD f (at + 3) 0) body
+
+            typed : goodLayer f at ≡ tests true (fit (getD f (at + 3) 0) body) (texts (getD f (at + 3) 0) body)
+            typed = by-record ∙ ap (λ (x : Bool). tests x (fit (getD f (at + 3) 0) body) (texts (getD f (at + 3) 0) body)) (eq-eqb (getD f (at + 2) 0) 4 t)
+
+            pub faulty : (k ≡ 0 → ⊥) → Stands f at 0
+            unfolding Stands
+            faulty w = typed ∙ a-fault (fit (getD f (at + 3) 0) body) (texts (getD f (at + 3) 0) body) (λ y. w (fault ∙ y))
+
+            pub stands : k ≡ 0 → Stands f at n
+            unfolding recAt Stands
+            stands w =
+                let fl = getD f (at + 3) 0 in
+                let g = no-fault (fit fl body) (texts fl body) (sym fault ∙ w) in
+                let i = head-held f at hd (d .1) q in
+                let good : goodLayer f at ≡ true = typed ∙ ap (λ (x : Bool). tests true x (texts fl body)) (g .0) ∙ ap (λ (x : Bool). tests true true x) (g .1) in
+                sized n (i .least) (record { readable = record { held = i; fits = g .0; texts = g .1 }; is = cut-is; kept = good })
+              where
+                sized : (m : ℕ) → 4 ≤ m → LayerAt f at m → Stands f at m
+                sized zero l a = absurd (omega arith)
+                sized (suc m) l a = a
+
+-- ---- a size of 0, and any other
+
+module _ (f : List ℕ) (at : ℕ) {n : ℕ} (s : Stands f at n) where
+  pub none-there : n ≡ 0 → goodLayer f at ≡ false
+  unfolding Stands
+  none-there e = subst (Stands f at) e s
+
+  pub one-there : (n ≡ 0 → ⊥) → LayerAt f at n
+  unfolding Stands
+  one-there h = go n s h
+    where
+      go : (m : ℕ) → Stands f at m → (m ≡ 0 → ⊥) → LayerAt f at m
+      go zero t z = absurd (z refl)
+      go (suc m) t z = t
+
+  pub answer-16 : n ≡ 0 → 16 ≡ layerAnswer f at
+  unfolding layerAnswer
+  answer-16 e = sym (ap (λ (x : Bool). cond x 0 16) (none-there e))
+
+  pub answer-0 : (n ≡ 0 → ⊥) → 0 ≡ layerAnswer f at
+  unfolding layerAnswer
+  answer-0 h = sym (ap (λ (x : Bool). cond x 0 16) (one-there h .kept))
+
+  pub none-shown : n ≡ 0 → (m : ℕ) → (OfSubstitute 0 ≡ shownOf f at m) × ShownIn f m (OfSubstitute 0)
+  unfolding shownOf ShownIn
+  none-shown e m = (sym (ap (λ (x : Bool). cond x (named (at + 8) (length (nameIn (cut (drop at f)))) m) (OfSubstitute 0)) (none-there e)), omega arith)
+
+-- ---- its name
+
+drop-take : (m n : ℕ) (l : List ℕ) → m ≤ length l → drop m (take (m + n) l) ≡ take n (drop m l)
+drop-take m n l h = ap (drop m) (take-add m n l) ∙ drop-at (take m l) (take n (drop m l)) m (length-take-le m l h)
+
+module _ (f : List ℕ) (at n : ℕ) (a : LayerAt f at n) where
+  pub layer-room : (8 ≤ n) × (at + n ≤ length f)
+  layer-room = (layer-ready (a .readable) .0, a .readable .held .inside)
+
+  pub layer-named : OptionalAt f (at + 8) (n - 8)
+  layer-named = layer-ready (a .readable) .1
+
+  name-is : nameIn (cut (drop at f)) ≡ textOf (take (n - 8) (drop (at + 8) f))
+  unfolding nameIn recAt
+  name-is =
+      let r = layer-room in
+      let e : n - 4 ≡ 4 + (n - 8) = omega arith in
+      let z : at + 4 + 4 ≡ at + 8 = omega arith in
+      ap nameIn (a .is)
+      ∙ ap textOf
+      (ap (λ (k : ℕ). drop 4 (take k (drop (at + 4) f))) e ∙ drop-take 4 (n - 8) (drop (at + 4) f) (omega (arith, length-drop (at + 4) f))
+      ∙ ap (take (n - 8)) (drop-drop 4 (at + 4) f ∙ ap (λ (k : ℕ). drop k f) z))
+
+  module _ (m : ℕ) {len : ℕ} (e : (len ≡ length (textOf (take (n - 8) (drop (at + 8) f)))) × (len ≤ n - 8)) where
+    shown-is : shownOf f at m ≡ named (at + 8) len m
+    unfolding shownOf
+    shown-is =
+        ap (λ (x : Bool). cond x (named (at + 8) (length (nameIn (cut (drop at f)))) m) (OfSubstitute 0)) (a .kept)
+        ∙ ap (λ (t : List ℕ). named (at + 8) (length t) m) name-is
+        ∙ ap (λ (k : ℕ). named (at + 8) k m) (sym (e .0))
+
+    pub empty-shown : len ≡ 0 → (OfSubstitute m ≡ shownOf f at m) × ShownIn f m (OfSubstitute m)
+    unfolding named ShownIn
+    empty-shown z = (sym (shown-is ∙ ap (λ (k : ℕ). named (at + 8) k m) z), omega arith)
+
+    pub name-shown : (len ≡ 0 → ⊥) → (OfFile (at + 8) len ≡ shownOf f at m) × ShownIn f m (OfFile (at + 8) len)
+    unfolding named ShownIn
+    name-shown z = (sym (shown-is ∙ go len z), let r = layer-room in let l = e .1 in omega arith)
+      where
+        go : (k : ℕ) → (k ≡ 0 → ⊥) → named (at + 8) k m ≡ OfFile (at + 8) k
+        go zero y = absurd (y refl)
+        go (suc k) y = refl
+
+-- ---- the length of its text
+
+module _ (f : List ℕ) (at len : ℕ) (o : OptionalAt f at len) where
+  abbrev bytes : List ℕ
+  bytes = take len (drop at f)
+
+  pub no-bytes : len ≡ 0 → (0 ≡ length (textOf bytes)) × (0 ≤ len)
+  unfolding textOf
+  no-bytes e = (sym (ap (λ (n : ℕ). length (textOf (take n (drop at f)))) e), omega arith)
+
+  module _ (h : len ≡ 0 → ⊥) where
+    abbrev here : StringAt f at len
+    here = o .named h
+
+    bytes-length : length bytes ≡ suc (suc (len - 2))
+    bytes-length = let i = o .inside in let l = here .least in length-take-le len (drop at f) (omega (arith, length-drop at f)) ∙ omega arith
+
+    last-but-one : getD bytes (len - 2) 0 ≡ getD f (at + (len - 2)) 0
+    last-but-one = let l = here .least in getD-take len (drop at f) (len - 2) 0 (omega arith) ∙ getD-drop at f (len - 2) 0
+
+    pub two-zeros : getD f (at + (len - 2)) 0 ≡ 0 → (len - 2 ≡ length (textOf bytes)) × (len - 2 ≤ len)
+    two-zeros z = (
+      sym (ap length (ends bytes (len - 2) (true→T (here .good)) bytes-length .0 (last-but-one ∙ z)) ∙ length-take-le (len - 2) bytes (omega (arith, bytes-length))),
+      omega arith,
+    )
+
+    pub one-zero : (getD f (at + (len - 2)) 0 ≡ 0 → ⊥) → (len - 2 + 1 ≡ length (textOf bytes)) × (len - 2 + 1 ≤ len)
+    one-zero z =
+        let l = here .least in (
+          sym (ap length (ends bytes (len - 2) (true→T (here .good)) bytes-length .1 (λ y. z (sym last-but-one ∙ y))) ∙ length-take-le (suc (len - 2)) bytes (omega (arith, bytes-length)) ∙ omega arith),
+          omega arith,
+        )
+
+-- ---- the part that is shown
+
+module _ (f : List ℕ) (n : ℕ) (r : Shown) (i : ShownIn f n r) where
+  pub in-file : {at len : ℕ} → r ≡ OfFile at len → at + len ≤ length f
+  unfolding ShownIn
+  in-file q = subst (ShownIn f n) q i
+
+  pub in-substitute : {len : ℕ} → r ≡ OfSubstitute len → len ≤ n
+  unfolding ShownIn
+  in-substitute q = subst (ShownIn f n) q i
+
+-- s is what is shown; its bytes as code cuts them, and its pointer
+module _ (f t : List ℕ) (p o : ℕ × ℕ) {r s : Shown} (e : r ≡ s) where
+  pub of-file : {at len : ℕ} → r ≡ OfFile at len → (take (at + len - at) (drop at f) ≡ shownText f t s) × (_≡_ {A = ℕ × ℕ} (p .0, at + p .1) (shownPtr p o s))
+  unfolding shownText shownPtr
+  of-file {at} {len} q =
+      let z : at + len - at ≡ len = omega arith in
+      let w : at + p .1 ≡ p .1 + at = omega arith in
+      let y = sym (sym e ∙ q) in (
+        ap (λ (k : ℕ). take k (drop at f)) z ∙ ap (shownText f t) y,
+        ap (λ (k : ℕ). (p .0, k)) w ∙ ap (shownPtr p o) y,
+      )
+
+  pub of-substitute : {len : ℕ} → r ≡ OfSubstitute len → (take (len - 0) (drop 0 t) ≡ shownText f t s) × (_≡_ {A = ℕ × ℕ} (o .0, 0 + o .1) (shownPtr p o s))
+  unfolding shownText shownPtr
+  of-substitute {len} q =
+      let z : len - 0 ≡ len = omega arith in
+      let w : 0 + o .1 ≡ o .1 = omega arith in
+      let y = sym (sym e ∙ q) in (
+        ap (λ (k : ℕ). take k t) z ∙ ap (shownText f t) y,
+        ap (λ (k : ℕ). (o .0, k)) w ∙ ap (shownPtr p o) y,
+      )

@@ -1,0 +1,2 @@
+-- The name shown for a layer.
+pub mod Layers

@@ -1,0 +1,98 @@
+// The name shown for a layer: a part of the file, or of a substitute text that the caller lends.
+ghost use mathlib.Core.Path.{_≡_};
+ghost use lib.ListN.{length, take, drop};
+ghost use Prim.Native.Nat.{_+_, _-_, _≤_};
+ghost use Rattle.cgx_spec.specs.Strings.{textOf};
+ghost use Rattle.cgx_views.specs.Views.{OptionalAt};
+ghost use Rattle.cgx_layers.specs.Layers.{layerAnswer, shownOf, shownText, shownPtr, ShownIn, Stands};
+use cgx_bodies::layer_fault;
+use cgx_steps::Head;
+use cgx_steps::head_at;
+
+// Which of the two texts is shown, and how much of it: of the file from an offset on, of the substitute from its beginning.
+pub enum Shown {
+    OfFile { at: usize, len: usize },
+    OfSubstitute { len: usize },
+}
+
+// Whether a good LAYER stands at an offset: 0, or 16 where none does.
+pub fn layer_at(file: &[u8], at: usize) -> u8
+    ensures { λ r. ⌜ r ≡ layerAnswer (now (file .entry)) at ⌝ }
+{
+    let size = layer_size(file, at);
+    if size == 0 { 16 } else { 0 }
+}
+
+// The name shown for the layer at an offset. The promise has its bytes, and its place: it is the very part of the file or of the
+// substitute that `shown_at` tells.
+pub fn layer_name<'a>(file: &'a [u8], at: usize, substitute: &'a [u8]) -> &'a [u8]
+    ensures { λ r. ⌜ now r ≡ shownText (now (file .entry)) (now (substitute .entry)) (shownOf (now (file .entry)) at (length (now (substitute .entry)))) ⌝ }
+    ensures place { λ r. ⌜ r .ptr ≡ shownPtr (file .entry .ptr) (substitute .entry .ptr) (shownOf (now (file .entry)) at (length (now (substitute .entry)))) ⌝ }
+{
+    let shown = shown_at(file, at, substitute);
+    match shown {
+        Shown::OfFile { at: from, len } => {
+            let end = from + len;
+            &file[from..end]
+        }
+        Shown::OfSubstitute { len } => &substitute[0..len],
+    }
+}
+
+// The same, told by offset and length.
+pub fn shown_at(file: &[u8], at: usize, substitute: &[u8]) -> Shown
+    ensures { λ r. ⌜ r ≡ shownOf (now (file .entry)) at (length (now (substitute .entry))) ⌝ }
+    ensures inside { λ r. ⌜ ShownIn (now (file .entry)) (length (now (substitute .entry))) r ⌝ }
+{
+    let size = layer_size(file, at);
+    if size == 0 {
+        return Shown::OfSubstitute { len: 0 };
+    }
+    let len = name_len(file, at + 8, size - 8);
+    if len == 0 {
+        return Shown::OfSubstitute {
+            len: substitute.len(),
+        };
+    }
+    Shown::OfFile { at: at + 8, len }
+}
+
+// The size of the good LAYER at an offset, or 0. Nothing before the offset is read.
+fn layer_size(file: &[u8], at: usize) -> usize
+    ensures { λ r. ⌜ Stands (now (file .entry)) at r ⌝ }
+{
+    if at < 4 {
+        return 0;
+    }
+    if at % 2 == 1 {
+        return 0;
+    }
+    if file.len() < at {
+        return 0;
+    }
+    let found = head_at(file, at);
+    match found {
+        Head::Bad(_) => 0,
+        Head::Sized(n) => {
+            if file[at + 2] != 4 {
+                return 0;
+            }
+            let from = at + 4;
+            let to = at + n;
+            let fault = layer_fault(&file[from..to], file[at + 3]);
+            if fault == 0 { n } else { 0 }
+        }
+    }
+}
+
+// The length of the text in a name of so many bytes, which is a good string or nothing: its last two bytes tell where the text ends.
+fn name_len(file: &[u8], at: usize, len: usize) -> usize
+    requires { ⌜ OptionalAt (now file) at len ⌝ }
+    ensures { λ r. ⌜ (r ≡ length (textOf (take len (drop at (now (file .entry)))))) × (r ≤ len) ⌝ }
+{
+    if len == 0 {
+        return 0;
+    }
+    let n = len - 2;
+    if file[at + n] == 0 { n } else { n + 1 }
+}
