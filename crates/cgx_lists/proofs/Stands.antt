@@ -13,7 +13,7 @@ use Rattle.cgx_kinds.specs.declared.Repeat.{Repeat}
 use Rattle.cgx_kinds.specs.declared.Span.{Span}
 use Rattle.cgx_lists.specs.declared.BoxAt.the-variants.{Outside as noBox, Found as box}
 use Rattle.cgx_lists.specs.declared.PointAt.the-variants.{Outside as noPoint, Found as point}
-use Rattle.cgx_lists.specs.Lists.{longAt, placeOf, stands, boxOf, pointOf, within, spanBytes}
+use Rattle.cgx_lists.specs.Lists.{longAt, placeOf, stands, boxOf, pointOf, within, spanBytes, spanPtr}
 
 module _ (n u : ℕ) (r : Repeat) (i : ℕ) where
   pub past-count : r .count ≤ i → false ≡ stands n u r i
@@ -79,10 +79,14 @@ module _ (f : List ℕ) (s : Span) where
   unfolding within
   text-in e = leb→le (s .at + s .len) (length f) (true→T e)
 
-  pub no-text : within (length f) s ≡ false → [] ≡ spanBytes f s
-  unfolding spanBytes
-  no-text e = rw e refl
+  -- with the pointer of the part, where the file's is p
+  pub no-text : (p : ℕ × ℕ) → within (length f) s ≡ false → ([] ≡ spanBytes f s) × (_≡_ {A = ℕ × ℕ} (p .0, 0 + p .1) (spanPtr p (length f) s))
+  unfolding spanBytes spanPtr
+  no-text p e = let q : 0 + p .1 ≡ p .1 = omega arith in (rw e refl, rw (e, q) refl)
 
-  pub a-text : within (length f) s ≡ true → take (s .at + s .len - s .at) (drop (s .at) f) ≡ spanBytes f s
-  unfolding spanBytes
-  a-text e = let q : s .at + s .len - s .at ≡ s .len = omega arith in rw (e, q) refl
+  pub a-text : (p : ℕ × ℕ) → within (length f) s ≡ true → (take (s .at + s .len - s .at) (drop (s .at) f) ≡ spanBytes f s) × (_≡_ {A = ℕ × ℕ} (p .0, s .at + p .1) (spanPtr p (length f) s))
+  unfolding spanBytes spanPtr
+  a-text p e =
+      let q : s .at + s .len - s .at ≡ s .len = omega arith in
+      let w : s .at + p .1 ≡ p .1 + s .at = omega arith in
+      (rw (e, q) refl, rw (e, w) refl)

@@ -8,7 +8,7 @@ use cgx_numbers::long_at;
 ghost use mathlib.Core.Path.{_≡_};
 ghost use Prim.Native.Nat.{_<_};
 ghost use lib.ListN.{length};
-ghost use Rattle.cgx_lists.specs.Lists.{stands, boxOf, pointOf, within, spanBytes};
+ghost use Rattle.cgx_lists.specs.Lists.{stands, boxOf, pointOf, within, spanBytes, spanPtr};
 
 pub enum BoxAt {
     // The list is shorter, or the box does not lie inside the file.
@@ -72,9 +72,10 @@ pub fn text_inside(f: &[u8], s: Span) -> bool
     len <= n - at
 }
 
-// The text where it lies inside the file, else no bytes.
+// The text where it lies inside the file, else no bytes. The promise has its place too: it is that very part of the file.
 pub fn text_bytes<'a>(f: &'a [u8], s: Span) -> &'a [u8]
     ensures { λ r. ⌜ now r ≡ spanBytes (now (f .entry)) s ⌝ }
+    ensures place { λ r. ⌜ r .ptr ≡ spanPtr (f .entry .ptr) (length (now (f .entry))) s ⌝ }
 {
     if !text_inside(f, s) {
         return &f[0..0];

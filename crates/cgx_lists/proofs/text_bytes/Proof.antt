@@ -20,7 +20,7 @@ part-result-end : tie.Need-part-result-end
 part-result-end c = search needs
 
 returns : tie.Need-returns
-returns c = let k = c .before .before in no-text (k .before .before .args .f .now) (k .before .before .args .s) (sym (k .text-inside .ensures) ∙ not-true (k .text-inside .result) (c .before .if1 .taken))
+returns c = let k = c .before .before in no-text (k .before .before .args .f .now) (k .before .before .args .s) (k .before .before .args .f .ptr) (sym (k .text-inside .ensures) ∙ not-true (k .text-inside .result) (c .before .if1 .taken))
 
 add-end : tie.Need-add-end
 add-end c =
@@ -43,7 +43,7 @@ part-result-end-2 c =
     omega arith
 
 returns-2 : tie.Need-returns-2
-returns-2 c = let k = c .before .before in a-text (k .before .before .args .f .now) (k .before .before .args .s) (sym (k .text-inside .ensures) ∙ not-false (k .text-inside .result) (c .before .if1 .left))
+returns-2 c = let k = c .before .before in a-text (k .before .before .args .f .now) (k .before .before .args .s) (k .before .before .args .f .ptr) (sym (k .text-inside .ensures) ∙ not-false (k .text-inside .result) (c .before .if1 .left))
 
 pub text-bytes-spec : {M : Type 1} → statement M
 text-bytes-spec =
