@@ -1,6 +1,7 @@
 // Printing of numbers, offsets, runs and refusals. `then_` prints a space first.
 use cgx_spec::Offset;
 use cgx_spec::Run;
+use cgx_spec::Verdict;
 use libc::STDOUT_FILENO;
 
 pub fn print(text: &[u8]) {
@@ -83,5 +84,12 @@ pub fn refusal(n: u8, at: Offset) {
             then_number(place as u64);
             print(b"\n");
         }
+    }
+}
+
+pub fn show_verdict(v: Verdict) {
+    match v {
+        Verdict::Accepted => print(b"accepted\n"),
+        Verdict::Refused { number, at } => refusal(number, Offset::At(at)),
     }
 }
