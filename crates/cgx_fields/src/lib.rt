@@ -99,7 +99,7 @@ pub fn optional_good(b: &[u8]) -> bool
     string_good(b)
 }
 
-fn no_zero(b: &[u8]) -> bool
+pub fn no_zero(b: &[u8]) -> bool
     ensures { λ r. ⌜ r ≡ noZero (now (b .entry)) ⌝ }
 {
     let mut none = true;

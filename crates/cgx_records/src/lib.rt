@@ -54,7 +54,7 @@ pub fn kind_of(t: u8) -> Kind
 }
 
 // Rule 6: each need of the kind is met, in the order of `Need`.
-fn may_stand(c: Context, k: Kind) -> bool
+pub fn may_stand(c: Context, k: Kind) -> bool
     ensures { λ r. ⌜ r ≡ allowed c (some k) ⌝ }
 {
     let library = c.library;

@@ -1,0 +1,2 @@
+-- A call's plan as the code computes it.
+pub mod Plans

@@ -1,0 +1,161 @@
+// Plans: the checks of a call, in their order. Each answers the number of the refusal, or 0.
+ghost use mathlib.Core.Path.{_≡_};
+ghost use mathlib.Core.Option.{none, some};
+ghost use Prim.Native.Nat.{_%_};
+ghost use lib.ListN.{length};
+ghost use Rattle.cgx_spec.specs.Fields.{inOrder};
+ghost use Rattle.cgx_writing.specs.Given.{givenLayer, givenBox, givenWire, givenText, givenEndlib};
+ghost use Rattle.cgx_plans.specs.Plans.{Each, checked, textFault, givenFault, planned};
+use cgx_fields::no_zero;
+use cgx_kinds::Wire;
+use cgx_places::is_forged;
+use cgx_records::may_stand;
+use cgx_spec::Kind;
+use cgx_spec::Place;
+use cgx_writing::EndStyle;
+
+// The most bytes that a record may have.
+const MAX_SIZE: usize = 65534;
+
+pub fn plan_layer(room: usize, p: Place) -> u8
+    ensures { λ r. ⌜ Each (λ n. Each (λ d. r ≡ planned room p (givenLayer (record { 0 = n }) (record { 0 = d }) none))) ⌝ }
+{
+    checks(room, p, Kind::Layer, 0, 8)
+}
+
+pub fn plan_named(room: usize, p: Place, name: &[u8]) -> u8
+    ensures { λ r. ⌜ Each (λ n. Each (λ d. r ≡ planned room p (givenLayer (record { 0 = n }) (record { 0 = d }) (some (now (name .entry)))))) ⌝ }
+{
+    checks(
+        room,
+        p,
+        Kind::Layer,
+        text_fault(name),
+        10 + name.len() / 2 * 2,
+    )
+}
+
+pub fn plan_box(room: usize, p: Place, sides: &[i32]) -> u8
+    ensures { λ r. ⌜ r ≡ planned room p (givenBox (now (sides .entry))) ⌝ }
+{
+    checks(room, p, Kind::Box, box_fault(sides), 4 + 4 * sides.len())
+}
+
+pub fn plan_wire(room: usize, p: Place, style: EndStyle, points: &[i32]) -> u8
+    ensures { λ r. ⌜ Each (λ w. r ≡ planned room p (givenWire style w (now (points .entry)))) ⌝ }
+{
+    checks(
+        room,
+        p,
+        Kind::Wire,
+        wire_fault(style, points),
+        8 + 4 * points.len(),
+    )
+}
+
+pub fn plan_text(room: usize, p: Place, flags: u8, label: &[u8]) -> u8
+    ensures { λ r. ⌜ Each (λ x. Each (λ y. Each (λ w. r ≡ planned room p (givenText flags (record { x = x; y = y }) w (now (label .entry)))))) ⌝ }
+{
+    checks(
+        room,
+        p,
+        Kind::Text,
+        text_fault(label),
+        18 + label.len() / 2 * 2,
+    )
+}
+
+pub fn plan_endlib(room: usize, p: Place) -> u8
+    ensures { λ r. ⌜ r ≡ planned room p givenEndlib ⌝ }
+{
+    checks(room, p, Kind::Endlib, 0, 4)
+}
+
+// ---- the order of the checks
+
+// The checks of a call in their order; `fault` is the first of the rules 7 to 12 that it breaks, or 0.
+fn checks(room: usize, p: Place, k: Kind, fault: u8, size: usize) -> u8
+    ensures { λ r. ⌜ r ≡ checked room p k fault size ⌝ }
+{
+    if is_forged(room, p) {
+        return 16;
+    }
+    let c = p.context;
+    if c.ended {
+        return 6;
+    }
+    if !may_stand(c, k) {
+        return 6;
+    }
+    if fault != 0 {
+        return fault;
+    }
+    if MAX_SIZE < size {
+        return 15;
+    }
+    let at = p.at;
+    if room - at < size {
+        return 14;
+    }
+    0
+}
+
+// ---- the rules 7 to 12
+
+// The rules 7 to 12 of a BOX.
+fn box_fault(sides: &[i32]) -> u8
+    ensures { λ r. ⌜ r ≡ givenFault (givenBox (now (sides .entry))) ⌝ }
+{
+    if sides.len() % 4 != 0 {
+        return 8;
+    }
+    if sides.len() < 4 {
+        return 8;
+    }
+    if boxes_good(sides) { 0 } else { 10 }
+}
+
+fn boxes_good(sides: &[i32]) -> bool
+    requires { ⌜ length (now sides) % 4 ≡ 0 ⌝ }
+    ensures { λ r. ⌜ r ≡ inOrder (now (sides .entry)) ⌝ }
+{
+    let mut i = 0;
+    while i < sides.len() {
+        let l = sides[i];
+        let b = sides[i + 1];
+        let r = sides[i + 2];
+        let t = sides[i + 3];
+        if r < l {
+            return false;
+        }
+        if t < b {
+            return false;
+        }
+        i += 4;
+    }
+    true
+}
+
+// The rules 7 to 12 of a WIRE.
+fn wire_fault(style: EndStyle, points: &[i32]) -> u8
+    ensures { λ r. ⌜ Each (λ w. r ≡ givenFault (givenWire style w (now (points .entry)))) ⌝ }
+{
+    let flags = style.flags();
+    if Wire::MAX_FLAGS < flags {
+        return 7;
+    }
+    if points.len() % 2 != 0 {
+        return 8;
+    }
+    if points.len() < 2 {
+        return 8;
+    }
+    0
+}
+
+// Rule 11 of a text, the only one of 7 to 12 that a record with a text and no more can break.
+fn text_fault(t: &[u8]) -> u8
+    ensures { λ r. ⌜ r ≡ textFault (now (t .entry)) ⌝ }
+{
+    if no_zero(t) { 0 } else { 11 }
+}

@@ -1,0 +1,86 @@
+// Stores of a planned record, in normal form. The caller shows that there is room.
+ghost use mathlib.Core.Path.{_≡_};
+ghost use mathlib.Core.Option.{none, some};
+ghost use mathlib.Core.List.{[], _∷_};
+ghost use Prim.Native.Nat.{_+_, _*_, _/_, _%_, _≤_, _<_};
+ghost use lib.ListN.{length};
+ghost use Rattle.cgx_spec.specs.Records.{bytesOf};
+ghost use Rattle.cgx_put.specs.Put.{put};
+ghost use Rattle.cgx_writing.specs.Given.{written, givenLayer, givenBox, givenWire, givenText, givenEndlib};
+use cgx_copy::flags_meant;
+use cgx_put::put_bytes;
+use cgx_put::put_long;
+use cgx_put::put_longs;
+use cgx_put::put_short;
+use cgx_put::put_text;
+use cgx_spec::Kind;
+use cgx_writing::EndStyle;
+
+pub fn store_layer(buf: &mut [u8], at: usize, number: i16, datatype: i16)
+    requires { ⌜ at + 8 ≤ length (now buf) ⌝ }
+    ensures { λ _. ⌜ now (buf .exit) ≡ put (now (buf .entry)) at (bytesOf (written (givenLayer (record { 0 = number }) (record { 0 = datatype }) none))) ⌝ }
+{
+    put_header(buf, at, 8, 4, 0);
+    put_short(buf, at + 4, number);
+    put_short(buf, at + 6, datatype);
+}
+
+pub fn store_named(buf: &mut [u8], at: usize, number: i16, datatype: i16, name: &[u8])
+    requires { ⌜ (at + (10 + length (now name) / 2 * 2) ≤ length (now buf)) × (10 + length (now name) / 2 * 2 ≤ 65534) ⌝ }
+    ensures { λ _. ⌜ now (buf .exit) ≡ put (now (buf .entry)) at (bytesOf (written (givenLayer (record { 0 = number }) (record { 0 = datatype }) (some (now (name .entry)))))) ⌝ }
+{
+    put_header(buf, at, (10 + name.len() / 2 * 2) as u32, 4, 0);
+    put_short(buf, at + 4, number);
+    put_short(buf, at + 6, datatype);
+    put_text(buf, at + 8, name);
+}
+
+pub fn store_box(buf: &mut [u8], at: usize, sides: &[i32])
+    requires { ⌜ (at + (4 + 4 * length (now sides)) ≤ length (now buf)) × (4 + 4 * length (now sides) ≤ 65534) ⌝ }
+    ensures { λ _. ⌜ now (buf .exit) ≡ put (now (buf .entry)) at (bytesOf (written (givenBox (now (sides .entry))))) ⌝ }
+{
+    put_header(buf, at, (4 + 4 * sides.len()) as u32, 5, 0);
+    put_longs(buf, at + 4, sides);
+}
+
+pub fn store_wire(buf: &mut [u8], at: usize, style: EndStyle, width: i32, points: &[i32])
+    requires { ⌜ (at + (8 + 4 * length (now points)) ≤ length (now buf)) × (8 + 4 * length (now points) ≤ 65534) ⌝ }
+    ensures { λ _. ⌜ now (buf .exit) ≡ put (now (buf .entry)) at (bytesOf (written (givenWire style width (now (points .entry))))) ⌝ }
+{
+    put_header(buf, at, (8 + 4 * points.len()) as u32, 7, style.flags());
+    put_long(buf, at + 4, width);
+    put_longs(buf, at + 8, points);
+}
+
+pub fn store_text(buf: &mut [u8], at: usize, flags: u8, x: i32, y: i32, width: i32, label: &[u8])
+    requires { ⌜ (at + (18 + length (now label) / 2 * 2) ≤ length (now buf)) × (18 + length (now label) / 2 * 2 ≤ 65534) ⌝ }
+    ensures { λ _. ⌜ now (buf .exit) ≡ put (now (buf .entry)) at (bytesOf (written (givenText flags (record { x = x; y = y }) width (now (label .entry))))) ⌝ }
+{
+    put_header(
+        buf,
+        at,
+        (18 + label.len() / 2 * 2) as u32,
+        8,
+        flags_meant(Kind::Text, flags),
+    );
+    put_long(buf, at + 4, x);
+    put_long(buf, at + 8, y);
+    put_long(buf, at + 12, width);
+    put_text(buf, at + 16, label);
+}
+
+pub fn store_endlib(buf: &mut [u8], at: usize)
+    requires { ⌜ at + 4 ≤ length (now buf) ⌝ }
+    ensures { λ _. ⌜ now (buf .exit) ≡ put (now (buf .entry)) at (bytesOf (written givenEndlib)) ⌝ }
+{
+    put_header(buf, at, 4, 10, 0);
+}
+
+// Size, type and flags of a record.
+fn put_header(buf: &mut [u8], at: usize, size: u32, kind: u8, flags: u8)
+    requires { ⌜ (at + 4 ≤ length (now buf)) × (size < 65536) ⌝ }
+    ensures { λ _. ⌜ now (buf .exit) ≡ put (now (buf .entry)) at (size / 256 ∷ size % 256 ∷ kind ∷ flags ∷ []) ⌝ }
+{
+    let header = [(size / 256) as u8, (size % 256) as u8, kind, flags];
+    put_bytes(buf, at, &header);
+}

@@ -1,0 +1,179 @@
+// The writer: one record a call, in normal form. A call plans, which only checks, and then stores, which cannot fail.
+ghost use mathlib.Core.Path.{_≡_};
+ghost use mathlib.Core.Option.{none, some};
+ghost use Prim.Native.Nat.{_+_, _<_};
+ghost use Rattle.cgx_spec.specs.Order.{next};
+ghost use Rattle.cgx_records.specs.Faults.{waiting};
+ghost use Rattle.cgx_writing.specs.Given.{givenLayer, givenBox, givenWire, givenText, givenEndlib};
+ghost use Rattle.cgx_writing.specs.Writing.{startIn, callIn, named};
+use cgx_kinds::DataType;
+use cgx_kinds::LayerNo;
+use cgx_kinds::Point;
+use cgx_plans::plan_box;
+use cgx_plans::plan_endlib;
+use cgx_plans::plan_layer;
+use cgx_plans::plan_named;
+use cgx_plans::plan_text;
+use cgx_plans::plan_wire;
+use cgx_put::put_bytes;
+use cgx_records::next_context;
+use cgx_spec::Kind;
+use cgx_spec::Offset;
+use cgx_spec::Place;
+use cgx_stores::store_box;
+use cgx_stores::store_endlib;
+use cgx_stores::store_layer;
+use cgx_stores::store_named;
+use cgx_stores::store_text;
+use cgx_stores::store_wire;
+use cgx_writing::Answer;
+use cgx_writing::EndStyle;
+use cgx_writing::Started;
+
+// Stores the four bytes that a file begins with.
+pub fn start(buf: &mut [u8]) -> Started
+    ensures { λ r. ⌜ record { answer = r; buffer = now (buf .exit) } ≡ startIn (now (buf .entry)) ⌝ }
+{
+    if buf.len() < 4 {
+        return Started::Refused {
+            number: 14,
+            at: Offset::Nowhere,
+        };
+    }
+    let header = [99, 103, 120, 0];
+    put_bytes(buf, 0, &header);
+    Started::Ready(Place::start())
+}
+
+// ---- the calls
+
+// Appends a LAYER without a name.
+pub fn layer(buf: &mut [u8], place: Place, number: LayerNo, datatype: DataType) -> Answer
+    ensures { λ r. ⌜ record { answer = r; buffer = now (buf .exit) } ≡ callIn (now (buf .entry)) place (givenLayer number datatype none) ⌝ }
+{
+    let fault = plan_layer(buf.len(), place);
+    if fault != 0 {
+        return refusal(fault, place);
+    }
+    let at = place.at;
+    let n = number.0;
+    let d = datatype.0;
+    store_layer(buf, at, n, d);
+    Answer::Taken(place_after(place, Kind::Layer, 8))
+}
+
+// Appends a LAYER with a name, which may be empty.
+pub fn named_layer(
+    buf: &mut [u8],
+    place: Place,
+    number: LayerNo,
+    datatype: DataType,
+    name: &[u8],
+) -> Answer
+    ensures { λ r. ⌜ record { answer = r; buffer = now (buf .exit) } ≡ callIn (now (buf .entry)) place (givenLayer number datatype (some (now (name .entry)))) ⌝ }
+{
+    let fault = plan_named(buf.len(), place, name);
+    if fault != 0 {
+        return refusal(fault, place);
+    }
+    let at = place.at;
+    let n = number.0;
+    let d = datatype.0;
+    store_named(buf, at, n, d, name);
+    Answer::Taken(place_after(place, Kind::Layer, 10 + name.len() / 2 * 2))
+}
+
+// Appends a BOX record: left, bottom, right, top of each box.
+pub fn boxes(buf: &mut [u8], place: Place, sides: &[i32]) -> Answer
+    ensures { λ r. ⌜ record { answer = r; buffer = now (buf .exit) } ≡ callIn (now (buf .entry)) place (givenBox (now (sides .entry))) ⌝ }
+{
+    let fault = plan_box(buf.len(), place, sides);
+    if fault != 0 {
+        return refusal(fault, place);
+    }
+    let at = place.at;
+    store_box(buf, at, sides);
+    Answer::Taken(place_after(place, Kind::Box, 4 + 4 * sides.len()))
+}
+
+// Appends a WIRE: x and y of each point.
+pub fn wire(buf: &mut [u8], place: Place, style: EndStyle, width: i32, points: &[i32]) -> Answer
+    ensures { λ r. ⌜ record { answer = r; buffer = now (buf .exit) } ≡ callIn (now (buf .entry)) place (givenWire style width (now (points .entry))) ⌝ }
+{
+    let fault = plan_wire(buf.len(), place, style, points);
+    if fault != 0 {
+        return refusal(fault, place);
+    }
+    let at = place.at;
+    store_wire(buf, at, style, width, points);
+    Answer::Taken(place_after(place, Kind::Wire, 8 + 4 * points.len()))
+}
+
+// Appends a TEXT.
+pub fn text(buf: &mut [u8], place: Place, flags: u8, at: Point, width: i32, label: &[u8]) -> Answer
+    ensures { λ r. ⌜ record { answer = r; buffer = now (buf .exit) } ≡ callIn (now (buf .entry)) place (givenText flags at width (now (label .entry))) ⌝ }
+{
+    let fault = plan_text(buf.len(), place, flags, label);
+    if fault != 0 {
+        return refusal(fault, place);
+    }
+    let to = place.at;
+    let x = at.x;
+    let y = at.y;
+    store_text(buf, to, flags, x, y, width, label);
+    Answer::Taken(place_after(place, Kind::Text, 18 + label.len() / 2 * 2))
+}
+
+// Appends ENDLIB.
+pub fn endlib(buf: &mut [u8], place: Place) -> Answer
+    ensures { λ r. ⌜ record { answer = r; buffer = now (buf .exit) } ≡ callIn (now (buf .entry)) place givenEndlib ⌝ }
+{
+    let fault = plan_endlib(buf.len(), place);
+    if fault != 0 {
+        return refusal(fault, place);
+    }
+    let at = place.at;
+    store_endlib(buf, at);
+    Answer::Taken(place_after(place, Kind::Endlib, 4))
+}
+
+// ---- answers
+
+fn refusal(n: u8, p: Place) -> Answer
+    ensures { λ r. ⌜ r ≡ Answer.Refused n (named n (p .at)) p ⌝ }
+{
+    let at = p.at;
+    if n < 6 {
+        return Answer::Refused {
+            number: n,
+            at: Offset::Nowhere,
+            place: p,
+        };
+    }
+    if 12 < n {
+        return Answer::Refused {
+            number: n,
+            at: Offset::Nowhere,
+            place: p,
+        };
+    }
+    Answer::Refused {
+        number: n,
+        at: Offset::At(at),
+        place: p,
+    }
+}
+
+// The place after a record of this kind and size.
+fn place_after(p: Place, k: Kind, size: usize) -> Place
+    requires { ⌜ (p .at + size < 18446744073709551616) × (waiting (p .context .run) < 18446744073709551615) ⌝ }
+    ensures { λ r. ⌜ r ≡ record { at = p .at + size; context = next (p .context) (p .at) (some k) } ⌝ }
+{
+    let at = p.at;
+    let c = p.context;
+    let context = next_context(c, at, k);
+    Place {
+        at: at + size,
+        context,
+    }
+}

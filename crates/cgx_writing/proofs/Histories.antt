@@ -1,0 +1,128 @@
+-- After any calls from a fresh start, what the taken ones stored is read back: each store lengthens the bytes before the writer's place by a good record. Assumes nothing.
+use mathlib.Core.Path.{_≡_, refl, sym, ap, ap₂, _∙_}
+use mathlib.Core.Bool.{Bool, true, false, cond}
+use mathlib.Core.List.{List, [], _∷_, _++_, map, append-nil, append-assoc}
+use mathlib.Core.Option.{Option, none, some}
+use Prim.Native.Nat.{ℕ, _+_, _≤_}
+use native.Mathlib.Omega.{arith}
+use lib.Dec.{leb, leb→le}
+use lib.ListN.{length, take}
+use Rattle.cgx_spec.specs.declared.Kind.{Kind}
+use Rattle.cgx_spec.specs.declared.Place.{Place}
+use Rattle.cgx_spec.specs.Fields.{join}
+use Rattle.cgx_spec.specs.Order.{start}
+use Rattle.cgx_spec.specs.Records.{Rec, size, bytesOf, Meaning, meaningOf, normalOf, broken, contextAfter}
+use Rattle.cgx_spec.specs.Files.{header, Accepted, recordsOf, Known, known, ifKnown, sequence, meanings, normals, normalForm}
+use Rattle.cgx_spec.specs.Walking.{firstPlace, placeAfter, forged}
+use Rattle.cgx_spec.specs.Written.{GoodFrom}
+use Rattle.cgx_spec.proofs.Lists.{true→T}
+use Rattle.cgx_spec.proofs.Chain.{good-chain, file-complete}
+use Rattle.cgx_put.specs.Put.{put}
+use Rattle.cgx_put.proofs.Puts.{put-length}
+use Rattle.cgx_writing.specs.Given.{Given, meant, written}
+use Rattle.cgx_writing.specs.Typed.{WellTyped}
+use Rattle.cgx_writing.specs.Writing.{rulesOf, checks, placeBehind, settled, callIn, placeOf, History, ifTaken, calls, fromStart, fileOf}
+use Rattle.cgx_writing.specs.Demands.{AllWell, ReadBack}
+use Rattle.cgx_writing.proofs.Records.{further, checks-are, kind-written, Good, good-call}
+use Rattle.cgx_writing.proofs.Stores.{take-put, take-record, start-is}
+
+-- ---- one call
+
+-- no refusal: the rules are kept and there is room
+no-refusal : (n : ℕ) (p : Place) (g : Given) → broken (checks n p g) ≡ none → (broken (rulesOf (p .context) g) ≡ none) × (p .at + size (written g) ≤ n)
+no-refusal n p g e = one (forged n p) (broken (rulesOf (p .context) g)) (leb (p .at + size (written g)) n) refl (sym (checks-are n p g) ∙ e)
+  where
+    one : (f : Bool) (o : Option ℕ) (r : Bool) → leb (p .at + size (written g)) n ≡ r → cond f (some 16) (further o 14 r) ≡ none → (o ≡ none) × (p .at + size (written g) ≤ n)
+    one true o r q e = absurd (let z : _≡_ {A = ℕ} 0 1 = cc in omega arith)
+    one false (some m) r q e = absurd (let z : _≡_ {A = ℕ} 0 1 = cc in omega arith)
+    one false none false q e = absurd (let z : _≡_ {A = ℕ} 0 1 = cc in omega arith)
+    one false none true q e = (refl, leb→le (p .at + size (written g)) n (true→T q))
+
+-- ---- any calls
+
+pub record Kept (p : Place) (seen : List ℕ) (h : History) : Type 0 where
+  pub good : GoodFrom (p .context) (p .at) (map written (h .taken))
+  pub bytes : take (h .place .at) (h .buffer) ≡ seen ++ join bytesOf (map written (h .taken))
+  pub means : map (λ g. meaningOf (g .kind) (written g)) (h .taken) ≡ map meant (h .taken)
+  pub normal : map (λ g. normalOf (g .kind) (written g)) (h .taken) ≡ map written (h .taken)
+
+one-call : (g : Given) (gs : List Given) → WellTyped g
+    → ((buf : List ℕ) (p : Place) → p .at ≤ length buf → calls buf p gs .place .context .ended ≡ true → Kept p (take (p .at) buf) (calls buf p gs))
+    → (buf : List ℕ) (p : Place) → p .at ≤ length buf → (o : Option ℕ) → broken (checks (length buf) p g) ≡ o
+    → let w = settled buf p g o in let h = calls (w .buffer) (placeOf (w .answer)) gs in
+    let all : History = record { taken = ifTaken (w .answer) g (h .taken); place = h .place; buffer = h .buffer } in
+    all .place .context .ended ≡ true → Kept p (take (p .at) buf) all
+unfolding settled placeBehind placeAfter contextAfter
+one-call g gs w rest buf p l (some n) f e = rest buf p l e
+one-call g gs w rest buf p l none f e =
+    let n = no-refusal (length buf) p g f in
+    let c : Good (p .context) g = good-call (p .context) g w (n .0) in
+    let vs = bytesOf (written g) in
+    let q = placeBehind p g in
+    let buf' = put buf (p .at) vs in
+    let m : length buf' ≡ length buf = put-length buf (p .at) vs in
+    let room : q .at ≤ length buf' = omega (arith, n .1) in
+    let k : Kept q (take (q .at) buf') (calls buf' q gs) = rest buf' q room e in
+    let ts = calls buf' q gs .taken in
+    record {
+      good = (c .unended, c .sized, c .kept, k .good);
+      bytes = k .bytes ∙ ap (λ (x : List ℕ). x ++ join bytesOf (map written ts)) (take-record buf p g (n .1)) ∙ append-assoc (take (p .at) buf) vs (join bytesOf (map written ts));
+      means = ap₂ _∷_ (c .means) (k .means);
+      normal = ap₂ _∷_ (c .normal) (k .normal);
+    }
+
+calls-kept : (gs : List Given) → AllWell gs → (buf : List ℕ) (p : Place) → p .at ≤ length buf → calls buf p gs .place .context .ended ≡ true → Kept p (take (p .at) buf) (calls buf p gs)
+unfolding calls callIn
+calls-kept [] h buf p l e = record { good = e; bytes = sym (append-nil (take (p .at) buf)); means = refl; normal = refl }
+calls-kept (g ∷ gs) h buf p l e = one-call g gs (h .0) (calls-kept gs (h .1)) buf p l (broken (checks (length buf) p g)) refl e
+
+-- ---- the file of the records taken
+
+abbrev knownOf : Given → Known
+knownOf g = record { kind = g .kind; rec = written g }
+
+known-all : (gs : List Given) → known (map written gs) ≡ map knownOf gs
+unfolding known
+known-all [] = refl
+known-all (g ∷ gs) = ap (λ (o : Option Kind). ifKnown o (written g) (known (map written gs))) (kind-written g) ∙ ap (λ (x : List Known). knownOf g ∷ x) (known-all gs)
+
+normals-all : (gs : List Given) → normals (map knownOf gs) ≡ map (λ g. normalOf (g .kind) (written g)) gs
+normals-all [] = refl
+normals-all (g ∷ gs) = ap (λ (x : List Rec). normalOf (g .kind) (written g) ∷ x) (normals-all gs)
+
+meanings-all : (gs : List Given) → meanings (map knownOf gs) ≡ map (λ g. meaningOf (g .kind) (written g)) gs
+meanings-all [] = refl
+meanings-all (g ∷ gs) = ap (λ (x : List Meaning). meaningOf (g .kind) (written g) ∷ x) (meanings-all gs)
+
+module _ (buf : List ℕ) (l : 4 ≤ length buf) (h : History) (k : Kept firstPlace (take 4 (put buf 0 header)) h) where
+  bytes-are : take (h .place .at) (h .buffer) ≡ fileOf (h .taken)
+  unfolding fileOf
+  bytes-are = k .bytes ∙ ap (λ (x : List ℕ). x ++ join bytesOf (map written (h .taken))) (take-put buf 0 header l)
+
+  file-read : Accepted (fileOf (h .taken)) × (recordsOf (fileOf (h .taken)) ≡ map written (h .taken))
+  unfolding fileOf firstPlace
+  file-read = file-complete (map written (h .taken)) (good-chain (map written (h .taken)) start 4 (k .good))
+
+  sequence-is : sequence (fileOf (h .taken)) ≡ map knownOf (h .taken)
+  unfolding sequence
+  sequence-is = ap known (file-read .1) ∙ known-all (h .taken)
+
+  own-form : normalForm (fileOf (h .taken)) ≡ fileOf (h .taken)
+  unfolding normalForm fileOf
+  own-form = ap (λ (ks : List Known). header ++ join bytesOf (normals ks)) sequence-is ∙ ap (λ (x : List Rec). header ++ join bytesOf x) (normals-all (h .taken) ∙ k .normal)
+
+  reads-back : ReadBack h
+  reads-back =
+      record {
+        bytes = bytes-are;
+        accepted = rw bytes-are (file-read .0);
+        means = rw bytes-are (ap meanings sequence-is ∙ meanings-all (h .taken) ∙ k .means);
+        normal = rw bytes-are own-form;
+      }
+
+pub any-calls : (buf : List ℕ) (gs : List Given) → 4 ≤ length buf → AllWell gs → let h = fromStart buf gs in h .place .context .ended ≡ true → ReadBack h
+unfolding fromStart firstPlace
+any-calls buf gs l w =
+    let b = put buf 0 header in
+    let room : 4 ≤ length b = omega (arith, put-length buf 0 header) in
+    rw (start-is buf l) (λ e. reads-back buf l (calls b firstPlace gs) (calls-kept gs w b firstPlace room e))

@@ -1,0 +1,14 @@
+-- `Items`: one item as the bytes of its field. `Layouts`: a body of items against its fields. `Records`: a call's record against a reader's rules. `Stores`: the
+-- buffer after a call. `Sizes`: the size of what each call writes. `Standing`: places that are not forged. `Histories`: calls one after another, read back. `Rooms`: room enough, and too little. `Calling`: what
+-- the calls of each kind give is well typed. `Promises`: all that `Demands` states.
+pub mod Items
+pub mod Layouts
+pub mod Records
+pub mod Stores
+pub mod Sizes
+pub mod Standing
+pub mod Histories
+pub mod Rooms
+pub mod Calling
+pub mod Specimens
+pub mod Promises

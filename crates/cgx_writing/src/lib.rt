@@ -1,0 +1,55 @@
+// What a call of the writer is given, and what it answers: the types that the definitions in specs/ and the writer's code share.
+ghost use mathlib.Core.Path.{_≡_};
+ghost use Rattle.cgx_writing.specs.Given.{styleOf};
+use cgx_kinds::Point;
+use cgx_spec::Offset;
+use cgx_spec::Place;
+
+// ---- what is given
+
+// A wire's end style, or none stated.
+pub enum EndStyle {
+    Unstated,
+    Stated(u8),
+}
+
+impl EndStyle {
+    // Flush.
+    pub const DEFAULT: u8 = 0;
+
+    // The flags that a wire is written with.
+    pub fn flags(self) -> u8
+        ensures { λ r. ⌜ r ≡ styleOf self ⌝ }
+    {
+        match self {
+            EndStyle::Unstated => EndStyle::DEFAULT,
+            EndStyle::Stated(style) => style,
+        }
+    }
+}
+
+// The array of an SREF: it counts where flag 8 is set.
+pub struct Grid {
+    pub cols: i32,
+    pub rows: i32,
+    pub across: Point,
+    pub up: Point,
+}
+
+// ---- what is answered
+
+// What starting a writer answers: 14 names no place.
+pub enum Started {
+    Ready(Place),
+    Refused { number: u8, at: Offset },
+}
+
+// What a call answers: the place after the record, or the number, the place that it names, and the old place.
+pub enum Answer {
+    Taken(Place),
+    Refused {
+        number: u8,
+        at: Offset,
+        place: Place,
+    },
+}
