@@ -1,8 +1,8 @@
 #!/usr/bin/env python3
-"""An independent implementation of papers/01-scope.md, and the files that cgx_cases is run on.
+"""A second implementation of papers/01-scope.md, and the files that cgx_cases is run on.
 
-Written from 01, 001 and READINGS.md, not from the definitions in specs/. One point that the papers leave open follows the
-definitions, and says so (`after`, LIBRARY). Run from the project's root:
+Written from 01, 001 and READINGS.md, not from the definitions in specs/ nor from the code of the rules; its author had read the source of
+check, step and normal_form, for the calls. One point that the papers leave open follows the definitions, and says so (`after`, LIBRARY). Run from the project's root:
 
   tools/cases.py            writes crates/cgx_cases/data/, args and stdout anew; the same bytes at every run
   tools/cases.py --print F  what the oracle says of one file

@@ -1,7 +1,8 @@
 #!/usr/bin/env python3
 """The files that cgx_queries is run on, and what 01 says of their lists, layer names and extents.
 
-Written from 01 and READINGS.md alone, on the oracle of cases.py. Run from the project's root:
+Written from 01 on top of cases.py, by an author who knew the definitions and the code of cgx_layers, cgx_extent and cgx_lists: a second
+statement, not an independent one. Run from the project's root:
 
   tools/queries.py   writes crates/cgx_queries/data/, args and stdout anew; the same bytes at every run
 """

@@ -1,5 +1,5 @@
-// Asks the files that its arguments name for all that is asked by offset, index or number, and prints the answers. tools/cases.py
-// makes the files, and says from the papers alone what is to be printed of each:
+// Asks the files that its arguments name for all that is asked by offset, index or number, and prints the answers. tools/queries.py
+// makes the files, and says what is to be printed of each:
 //
 //   NAME
 //     OFFSET boxes L B R T .. outside, or points X Y .. outside
