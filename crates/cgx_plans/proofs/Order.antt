@@ -3,24 +3,22 @@ use mathlib.Core.Path.{_≡_, refl, sym, ap, ap₂, _∙_, subst}
 use mathlib.Core.Bool.{Bool, true, false, not, _&&_, cond}
 use mathlib.Core.List.{List, [], _∷_}
 use mathlib.Core.Option.{Option, none, some}
-use Prim.Native.Nat.{ℕ, _+_, _%_, _≤_, _<_}
+use Prim.Native.Nat.{ℕ, _+_, _≤_, _<_}
 use native.Mathlib.Omega.{arith}
 use borrow.Author.Tests.{eqb-false, leb-true, leb-false, le-leb, lt-leb, le-ltb, lt-ltb}
-use lib.Dec.{T, leb, ltb, eqb, leb→le}
+use lib.Dec.{leb, ltb, eqb}
 use lib.ListN.{length}
 use Rattle.cgx_spec.specs.declared.Kind.{Kind}
 use Rattle.cgx_spec.specs.declared.Place.{Place}
 use Rattle.cgx_spec.specs.declared.Offset.the-variants.{Nowhere}
-use Rattle.cgx_spec.specs.declared.Run.{Run}
-use Rattle.cgx_spec.specs.declared.Run.the-variants.{Empty, Of}
 use Rattle.cgx_spec.specs.Kinds.{goodFlags}
 use Rattle.cgx_spec.specs.Order.{next}
 use Rattle.cgx_spec.specs.Records.{rule, broken, size, bytesOf, contextAfter}
-use Rattle.cgx_spec.specs.Walking.{firstPlace, offsetUpTo, runUpTo, forged, placeAfter}
+use Rattle.cgx_spec.specs.Walking.{firstPlace, forged, placeAfter}
 use Rattle.cgx_bodies.specs.Bodies.{numberOr0}
 use Rattle.cgx_put.specs.Put.{put}
 use Rattle.cgx_records.specs.Faults.{waiting}
-use Rattle.cgx_spec.proofs.Lists.{true→T, and-left, and-right}
+use Rattle.cgx_records.proofs.Sound.{not-forged}
 use Rattle.cgx_spec.specs.Files.{header}
 use Rattle.cgx_writing.specs.declared.Started.the-variants.{Ready, Refused as NotBegun}
 use Rattle.cgx_writing.specs.declared.Answer.{Answer}
@@ -99,36 +97,6 @@ follows e a h = rw h
 
 pub ended-not : (e a : Bool) → e ≡ true → (not e && a) ≡ false
 ended-not e a h = rw h
-
--- ---- a place that is not forged
-
-pub record Sound (n : ℕ) (p : Place) : Type 0 where
-  pub high : p .at ≤ n
-  pub few : waiting (p .context .run) ≤ p .at
-
-run-few : (at : ℕ) (r : Run) → T (runUpTo at r) → waiting r ≤ at
-run-few at Empty t = omega arith
-run-few at (Of first count) t = leb→le count at (and-right (leb first at) (leb count at) t)
-
-not-not : (b : Bool) → not b ≡ false → T b
-not-not true e = tt
-not-not false e = true→T (sym e)
-
-pub not-forged : (n : ℕ) (p : Place) → forged n p ≡ false → Sound n p
-unfolding forged
-not-forged n p e =
-    let t₁ = leb 4 (p .at) in
-    let t₂ = eqb (p .at % 2) 0 in
-    let t₃ = leb (p .at) n in
-    let t₄ = offsetUpTo (p .at) (p .context .cell) in
-    let t₅ = offsetUpTo (p .at) (p .context .layer) in
-    let t₆ = runUpTo (p .at) (p .context .run) in
-    let t = not-not (t₁ && t₂ && t₃ && t₄ && t₅ && t₆) e in
-    let u = and-left (t₁ && t₂ && t₃ && t₄) t₅ (and-left (t₁ && t₂ && t₃ && t₄ && t₅) t₆ t) in
-    record {
-      high = leb→le (p .at) n (and-right (t₁ && t₂) t₃ (and-left (t₁ && t₂ && t₃) t₄ u));
-      few = run-few (p .at) (p .context .run) (and-right (t₁ && t₂ && t₃ && t₄ && t₅) t₆ t);
-    }
 
 -- ---- a plan that is 0
 

@@ -1,6 +1,6 @@
 -- A walk step by step gives the views and the verdict of the whole-file walk.
 use mathlib.Core.Path.{_≡_, refl, sym, ap, _∙_, subst}
-use mathlib.Core.Bool.{Bool, true, false, not, _||_, cond}
+use mathlib.Core.Bool.{Bool, true, false, _||_, cond}
 use mathlib.Core.List.{List, [], _∷_, _++_}
 use mathlib.Core.Option.{Option, none, some}
 use Prim.Native.Nat.{ℕ, zero, suc, _+_, _*_, _%_, _-_, _≤_, _<_}
@@ -15,13 +15,14 @@ use Rattle.cgx_spec.specs.declared.Offset.the-variants.{Nowhere, At}
 use Rattle.cgx_spec.specs.declared.Run.{Run}
 use Rattle.cgx_spec.specs.declared.Run.the-variants.{Empty, Of}
 use Rattle.cgx_spec.specs.declared.Context.{Context}
+use Rattle.cgx_spec.specs.declared.Place.{Place}
 use Rattle.cgx_spec.specs.declared.Verdict.{Verdict}
 use Rattle.cgx_spec.specs.declared.Verdict.the-variants.{Accepted as accepted, Refused as refused}
 use Rattle.cgx_spec.specs.Dates.{within}
 use Rattle.cgx_spec.specs.Kinds.{kindOf, count}
 use Rattle.cgx_spec.specs.Order.{start, longer, next}
 use Rattle.cgx_spec.specs.Records.{Rec, size, faultOf, Placed, contextAfter, viewOf}
-use Rattle.cgx_spec.specs.Files.{Cut, bad, found, cutBody, cut, Step, stop, go, settle, judge, finish, step, Walk, walk, header, opening, opened, begin, walkOf, verdictOf, ifSeen, views, viewsOf}
+use Rattle.cgx_spec.specs.Files.{Cut, bad, found, cutBody, cut, Step, stop, go, settle, judge, finish, step, Walk, walk, header, opening, begin, walkOf, verdictOf, ifSeen, views, viewsOf}
 use Rattle.cgx_spec.specs.Walking.{firstPlace, placeAfter, offsetUpTo, runUpTo, forged, seen, refusedAt, ending, answer, stepOf, Reads, andThen, reads}
 use Rattle.cgx_spec.specs.Written.{last}
 use Rattle.cgx_spec.specs.Demands.{Reading}
@@ -75,10 +76,10 @@ step-at c at bs = one (c .ended) (cut bs) (cut-at bs)
 
 -- ---- a walk's places are not forged
 
-record Within (at : ℕ) (c : Context) : Type 0 where
-  cell-in : T (offsetUpTo at (c .cell))
-  layer-in : T (offsetUpTo at (c .layer))
-  run-in : T (runUpTo at (c .run))
+pub record Within (at : ℕ) (c : Context) : Type 0 where
+  pub cell-in : T (offsetUpTo at (c .cell))
+  pub layer-in : T (offsetUpTo at (c .layer))
+  pub run-in : T (runUpTo at (c .run))
 
 up : (at at' : ℕ) → at ≤ at' → (o : Offset) → T (offsetUpTo at o) → T (offsetUpTo at' o)
 up at at' l Nowhere t = tt
@@ -98,7 +99,7 @@ up-longer at at' l (Of first count) t =
     let k = leb→le count at (and-right (leb first at) (leb count at) t) in
     and-both (leb first at') (leb (count + 1) at') (le→leb first at' (omega arith)) (le→leb (count + 1) at' (omega arith))
 
-within-next : (c : Context) (at at' : ℕ) (o : Option Kind) → at < at' → Within at c → Within at' (next c at o)
+pub within-next : (c : Context) (at at' : ℕ) (o : Option Kind) → at < at' → Within at c → Within at' (next c at o)
 unfolding next
 within-next c at at' o l w = go o
   where
@@ -125,23 +126,30 @@ within-next c at at' o l w = go o
     go (some Sref) = record { cell-in = cell; layer-in = layer; run-in = tt }
     go (some Endlib) = record { cell-in = cell; layer-in = layer; run-in = tt }
 
--- a place that a walk comes to
-record Reached (f : List ℕ) (c : Context) (at : ℕ) : Type 0 where
-  low : 4 ≤ at
-  even : at % 2 ≡ 0
-  high : at ≤ length f
-  within : Within at c
+-- a place that a walk, or a writer, over n bytes comes to
+pub record Standing (n : ℕ) (p : Place) : Type 0 where
+  pub low : 4 ≤ p .at
+  pub even : p .at % 2 ≡ 0
+  pub high : p .at ≤ n
+  pub within : Within (p .at) (p .context)
 
-not-forged : (f : List ℕ) (c : Context) (at : ℕ) → Reached f c at → forged (length f) (record { at = at; context = c }) ≡ false
+pub not-forged : (n : ℕ) (p : Place) → Standing n p → forged n p ≡ false
 unfolding forged
-not-forged f c at h =
-    let e₁ : leb 4 at ≡ true = T→true (le→leb 4 at (h .low)) in
-    let e₂ : eqb (at % 2) 0 ≡ true = T→true (eq→eqb (at % 2) 0 (h .even)) in
-    let e₃ : leb at (length f) ≡ true = T→true (le→leb at (length f) (h .high)) in
-    let e₄ : offsetUpTo at (c .cell) ≡ true = T→true (h .within .cell-in) in
-    let e₅ : offsetUpTo at (c .layer) ≡ true = T→true (h .within .layer-in) in
-    let e₆ : runUpTo at (c .run) ≡ true = T→true (h .within .run-in) in
+not-forged n p h =
+    let e₁ : leb 4 (p .at) ≡ true = T→true (le→leb 4 (p .at) (h .low)) in
+    let e₂ : eqb (p .at % 2) 0 ≡ true = T→true (eq→eqb (p .at % 2) 0 (h .even)) in
+    let e₃ : leb (p .at) n ≡ true = T→true (le→leb (p .at) n (h .high)) in
+    let e₄ : offsetUpTo (p .at) (p .context .cell) ≡ true = T→true (h .within .cell-in) in
+    let e₅ : offsetUpTo (p .at) (p .context .layer) ≡ true = T→true (h .within .layer-in) in
+    let e₆ : runUpTo (p .at) (p .context .run) ≡ true = T→true (h .within .run-in) in
     rw (e₁, e₂, e₃, e₄, e₅, e₆)
+
+pub standing-start : (n : ℕ) → 4 ≤ n → Standing n firstPlace
+unfolding firstPlace start
+standing-start n l = record { low = omega arith; even = refl; high = l; within = record { cell-in = tt; layer-in = tt; run-in = tt } }
+
+abbrev Reached : List ℕ → Context → ℕ → Type 0
+Reached f c at = Standing (length f) (record { at = at; context = c })
 
 -- ---- step by step
 
@@ -207,7 +215,7 @@ further f k ih c at m n h p rest s lk lm ln = one (kindOf (p .rec .type))
         (ih (contextAfter p) at' m (suc n) r (less k lk) (less m lm) (let z = less n ln in omega arith))
     one (some kd) =
         let a = answer (length f) (step (contextAfter p) at' (drop at' f)) in
-        let g : stepOf f (placeAfter p) ≡ a = ap (λ (b : Bool). cond b (refusedAt 16 Nowhere) a) (not-forged f (contextAfter p) at' r) in
+        let g : stepOf f (placeAfter p) ≡ a = ap (λ (b : Bool). cond b (refusedAt 16 Nowhere) a) (not-forged (length f) (record { at = at'; context = contextAfter p }) r) in
         let t = ih (contextAfter p) at' (length f) n r (less k lk) (omega (arith, length-drop at' f)) (less n ln) in
         ap (λ (q : Reads). andThen (viewOf kd p) q) (ap (reads n f) g ∙ t ∙ ap (λ (x : List ℕ). summary (walk k (step (contextAfter p) at' x))) (sym e))
 
@@ -231,7 +239,7 @@ steps bs =
     let f = header ++ bs in
     let w : Within 4 start = record { cell-in = tt; layer-in = tt; run-in = tt } in
     let h : Reached f start 4 = record { low = omega arith; even = refl; high = omega arith; within = w } in
-    let g = not-forged f start 4 h in
+    let g = not-forged (length f) (record { at = 4; context = start }) h in
     ap (λ (b : Bool). reads (length f) f (cond b (refusedAt 16 Nowhere) (answer (length f) (step start 4 bs)))) g
     ∙ reading f (length f) start 4 (length f) (length f) h (omega arith) (omega arith) (omega arith)
 

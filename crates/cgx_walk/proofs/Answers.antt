@@ -1,16 +1,12 @@
 -- One step of a walk as a loop finds it: no count of steps is left in these laws. Assumes nothing.
-use mathlib.Core.Path.{_≡_, refl, sym, ap, _∙_, subst}
-use mathlib.Core.Bool.{Bool, true, false, not, _&&_, cond}
+use mathlib.Core.Path.{_≡_, refl, sym, ap, _∙_}
+use mathlib.Core.Bool.{Bool, true, false, cond}
 use mathlib.Core.List.{List}
 use mathlib.Core.Option.{Option, none, some}
-use Prim.Native.Nat.{ℕ, zero, suc, _+_, _%_, _≤_, _<_}
+use Prim.Native.Nat.{ℕ, zero, suc, _+_, _≤_}
 use native.Mathlib.Omega.{arith}
-use lib.Dec.{T, leb, eqb, leb→le}
 use lib.ListN.{length, drop, length-drop, getD}
-use lib.Seq.{drop-drop}
 use Rattle.cgx_spec.specs.declared.Kind.{Kind}
-use Rattle.cgx_spec.specs.declared.Run.{Run}
-use Rattle.cgx_spec.specs.declared.Run.the-variants.{Empty, Of}
 use Rattle.cgx_spec.specs.declared.Offset.the-variants.{Nowhere}
 use Rattle.cgx_spec.specs.declared.Context.{Context}
 use Rattle.cgx_spec.specs.declared.Place.{Place}
@@ -19,12 +15,10 @@ use Rattle.cgx_spec.specs.Kinds.{kindOf}
 use Rattle.cgx_spec.specs.Order.{next}
 use Rattle.cgx_spec.specs.Records.{size, Placed, contextAfter, viewOf}
 use Rattle.cgx_spec.specs.Files.{Step, stop, go, step}
-use Rattle.cgx_spec.specs.Walking.{placeAfter, offsetUpTo, runUpTo, forged, Answer, seen, refusedAt, ending, answer, stepOf, recAt, Held}
+use Rattle.cgx_spec.specs.Walking.{placeAfter, forged, Answer, seen, refusedAt, ending, answer, stepOf, recAt, Held}
 use Rattle.cgx_spec.proofs.Demand3.{unknown-kind}
-use Rattle.cgx_spec.proofs.Lists.{true→T, and-left, and-right}
 use Rattle.cgx_spec.proofs.Verdicts.{StepNamed, step-named}
-use Rattle.cgx_records.specs.Faults.{waiting}
-use Rattle.cgx_steps.specs.Steps.{stepMeant, Good, StepIn}
+use Rattle.cgx_steps.specs.Steps.{stepMeant, StepIn}
 use Rattle.cgx_steps.specs.declared.Stepped.{Stepped}
 use Rattle.cgx_steps.specs.declared.Stepped.the-variants.{Stop, Go}
 use Rattle.cgx_steps.proofs.Walks.{good, held-size}
@@ -129,35 +123,7 @@ pub not-begun : (n : ℕ) → (n ≡ 0 → ⊥) → NotBegun n 0 ≡ started n
 not-begun zero h = absurd (h refl)
 not-begun (suc n) h = refl
 
--- ---- a place that is not forged
-
-pub record Sound (n : ℕ) (p : Place) : Type 0 where
-  pub high : p .at ≤ n
-  pub few : waiting (p .context .run) ≤ p .at
-
-run-few : (at : ℕ) (r : Run) → T (runUpTo at r) → waiting r ≤ at
-run-few at Empty t = omega arith
-run-few at (Of first count) t = leb→le count at (and-right (leb first at) (leb count at) t)
-
-not-not : (b : Bool) → not b ≡ false → T b
-not-not true e = tt
-not-not false e = true→T (sym e)
-
-pub not-forged : (n : ℕ) (p : Place) → forged n p ≡ false → Sound n p
-unfolding forged
-not-forged n p e =
-    let t₁ = leb 4 (p .at) in
-    let t₂ = eqb (p .at % 2) 0 in
-    let t₃ = leb (p .at) n in
-    let t₄ = offsetUpTo (p .at) (p .context .cell) in
-    let t₅ = offsetUpTo (p .at) (p .context .layer) in
-    let t₆ = runUpTo (p .at) (p .context .run) in
-    let t = not-not (t₁ && t₂ && t₃ && t₄ && t₅ && t₆) e in
-    let u = and-left (t₁ && t₂ && t₃ && t₄) t₅ (and-left (t₁ && t₂ && t₃ && t₄ && t₅) t₆ t) in
-    record {
-      high = leb→le (p .at) n (and-right (t₁ && t₂) t₃ (and-left (t₁ && t₂ && t₃) t₄ u));
-      few = run-few (p .at) (p .context .run) (and-right (t₁ && t₂ && t₃ && t₄ && t₅) t₆ t);
-    }
+-- ---- forged places
 
 pub step-forged : (f : List ℕ) (p : Place) → forged (length f) p ≡ true → refusedAt 16 Nowhere ≡ stepOf f p
 unfolding stepOf

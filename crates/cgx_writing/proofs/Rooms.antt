@@ -22,7 +22,8 @@ use Rattle.cgx_writing.specs.Typed.{WellTyped}
 use Rattle.cgx_writing.specs.Writing.{rulesOf, placeBehind, Outcome, settled, callIn, placeOf, ifTaken, calls, fromStart, fileOf}
 use Rattle.cgx_writing.specs.Demands.{AllWell, Whole, ReadBack, Stops}
 use Rattle.cgx_writing.proofs.Records.{checks-are, Good, good-call}
-use Rattle.cgx_writing.proofs.Standing.{Standing, not-forged, standing-start, standing-behind}
+use Rattle.cgx_spec.proofs.Steps.{Standing, not-forged, standing-start}
+use Rattle.cgx_writing.proofs.Standing.{standing-behind}
 use Rattle.cgx_writing.proofs.Stores.{length-bytes, start-is}
 use Rattle.cgx_writing.proofs.Histories.{any-calls}
 

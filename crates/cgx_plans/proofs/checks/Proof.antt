@@ -5,7 +5,8 @@ use Prim.Native.Nat.{_+_}
 use native.Mathlib.Omega.{arith}
 use borrow.Author.Tests.{eq-eqb, ne-eqb, le-leb, lt-leb, not-true, not-false}
 use Rattle.cgx_spec.specs.Order.{allowed}
-use Rattle.cgx_plans.proofs.Order.{chk16, chk6, chkB, chk15, chk14, chk0, follows, ended-not, not-forged}
+use Rattle.cgx_plans.proofs.Order.{chk16, chk6, chkB, chk15, chk14, chk0, follows, ended-not}
+use Rattle.cgx_records.proofs.Sound.{not-forged}
 use borrow.Author.Needs.{needs}
 use Rattle.cgx_plans.proofs.checks.Statement.{statement}
 use Rattle.cgx_plans.proofs.checks.Tie as tie

@@ -8,7 +8,8 @@ use Rattle.cgx_spec.specs.Walking.{stepOf}
 use Rattle.cgx_records.specs.Faults.{waiting}
 use Rattle.cgx_steps.proofs.Walks.{good, held}
 use Rattle.cgx_walk.specs.Walk.{answerMeant}
-use Rattle.cgx_walk.proofs.Answers.{from, from-stop, from-known, from-unknown, not-forged, step-forged, step-on}
+use Rattle.cgx_walk.proofs.Answers.{from, from-stop, from-known, from-unknown, step-forged, step-on}
+use Rattle.cgx_records.proofs.Sound.{not-forged}
 use Rattle.cgx_walk.proofs.step.Statement.{statement}
 use Rattle.cgx_walk.proofs.step.Tie as tie
 
