@@ -38,7 +38,7 @@ ghost use Rattle.cgx_kinds.specs.Meant.{spanText, nameText, dateNumbers, option
 ghost use Rattle.cgx_views.specs.Views.{Readable, FieldsIn, ReadAt, SpanIn, NameIn, StringAt, OptionalAt, srefName, realIf, ArrayIs};
 
 // The fields of the record of `size` bytes at `at`, of this kind and with these flags. The parts of the file that they name
-// lie inside the record.
+// end where the record ends, or before; where they begin is promised by their bytes only.
 pub fn fields_of(f: &[u8], k: Kind, fl: u8, at: usize, size: usize) -> Fields
     requires { ⌜ Readable k fl (now f) at size ⌝ }
     ensures { λ r. ⌜ fieldValues (now (f .entry)) r ≡ values (pieces (layout k fl) (recAt (now (f .entry)) at size .body)) ⌝ }

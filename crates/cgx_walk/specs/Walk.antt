@@ -42,7 +42,7 @@ HandsBack p (Record v q) = Unit {0}
 HandsBack p Done = Unit {0}
 HandsBack p (Refused n o q) = q ≡ p
 
--- The spans and lists of a view lie inside the record, which ends at the new place: so their counts are the bytes' own.
+-- The spans and lists of a view end where the record ends, at the new place, or before: so their counts are the bytes' own. Where they begin is promised by their bytes only.
 abbrev pub Inside : Outcome → Type 0
 Inside (Record v q) = FieldsIn (q .at) (v .fields)
 Inside Done = Unit {0}
