@@ -3,6 +3,8 @@ use mathlib.Core.List.{List, [], _∷_}
 use Prim.Native.Nat.{ℕ, _*_}
 use lib.IntN.{ℤ, pos}
 use lib.ListN.{take, drop}
+use Rattle.cgx_spec.specs.declared.Kind.{Kind}
+use Rattle.cgx_spec.specs.declared.Kind.the-variants as kinds
 use Rattle.cgx_spec.specs.Numbers.{longsOf}
 use Rattle.cgx_spec.specs.Reals.{answerValue}
 use Rattle.cgx_spec.specs.Fields.{Value, missing, exactly, numbers, text}
@@ -66,6 +68,20 @@ fieldValues f (Text t) = one (t .at .x) ∷ one (t .at .y) ∷ one (t .width) �
 fieldValues f (Sref s) =
     one (s .at .x) ∷ one (s .at .y) ∷ optionalValue (s .angle) ∷ optionalValue (s .magnif) ∷ arrayValues (s .array) (spanText f (s .name) ∷ missing ∷ [])
 fieldValues f Endlib = missing ∷ []
+
+-- The kind whose fields they are.
+unfoldable pub fieldsKind : Fields → Kind
+fieldsKind (Library x) = kinds.Library
+fieldsKind (Struct x) = kinds.Struct
+fieldsKind (Cprpty x) = kinds.Cprpty
+fieldsKind (Property x) = kinds.Property
+fieldsKind (Layer x) = kinds.Layer
+fieldsKind (Box x) = kinds.Box
+fieldsKind (Poly x) = kinds.Poly
+fieldsKind (Wire x) = kinds.Wire
+fieldsKind (Text x) = kinds.Text
+fieldsKind (Sref x) = kinds.Sref
+fieldsKind Endlib = kinds.Endlib
 
 -- A view, as the definitions have it.
 unfoldable pub viewMeant : List ℕ → View → Records.View

@@ -20,7 +20,7 @@ use Rattle.cgx_kinds.specs.declared.Point.{Point}
 use Rattle.cgx_kinds.specs.declared.Repeat.{Repeat}
 use Rattle.cgx_kinds.specs.declared.Array.the-variants.{Of}
 use Rattle.cgx_kinds.specs.Meant.{one, pointNumbers, dateNumbers, repeatNumbers, arrayValues}
-use Rattle.cgx_views.specs.Views.{NameIn, StringAt, arrayIf, ArrayIs}
+use Rattle.cgx_views.specs.Views.{NameAt, StringAt, arrayIf, ArrayIs}
 
 -- ---- a list of values, one after another
 
@@ -109,6 +109,6 @@ a-name f at len s e = e ∙ go (take len (drop at f)) (let l = s .least in let i
     go [] h = absurd (omega arith)
     go (x ∷ b) h = refl
 
-pub name-in : (at o size : ℕ) (n : Name) → o ≤ size → NameIn (at + o + (size - o)) n → NameIn (at + size) n
+pub name-in : (at o size : ℕ) (n : Name) → o ≤ size → NameAt (at + o) (at + o + (size - o)) n → NameAt (at + o) (at + size) n
 name-in at o size Absent l h = tt
-name-in at o size (Present s) l h = omega arith
+name-in at o size (Present s) l h = (h .0, omega arith)

@@ -19,8 +19,8 @@ use Rattle.cgx_kinds.specs.declared.Span.{Span}
 use Rattle.cgx_kinds.specs.declared.OptionalReal.{OptionalReal}
 use Rattle.cgx_kinds.specs.declared.Array.{Array}
 use Rattle.cgx_kinds.specs.declared.Fields.the-variants.{Sref}
-use Rattle.cgx_kinds.specs.Meant.{one, spanText, optionalValue, arrayValues, fieldValues}
-use Rattle.cgx_views.specs.Views.{Readable, SpanIn, FieldsIn, ReadAt, piecesAt, valuesAt, StringAt, magnifOffset, arrayOffset, nameOffset, srefName, realIf, arrayIf, ArrayIs}
+use Rattle.cgx_kinds.specs.Meant.{one, spanText, optionalValue, arrayValues, fieldValues, fieldsKind}
+use Rattle.cgx_views.specs.Views.{Readable, SpanAt, FieldsAt, ReadAt, piecesAt, valuesAt, StringAt, magnifOffset, arrayOffset, nameOffset, srefName, AnswerAt, realIf, arrayIf, ArrayIs}
 use Rattle.cgx_views.proofs.Parts.{_then_, long-value, second-value}
 use Rattle.cgx_views.proofs.Ready.{sized, texts-kept, string-from}
 
@@ -133,17 +133,18 @@ module _ (fl : ℕ) (f : List ℕ) (at size : ℕ) (s : StringAt f (at + srefNam
 
 pub sref-by : {fl : ℕ} {f : List ℕ} {at size x g n : ℕ} → Room fl f at size x g n → (p : Point) (a b : OptionalReal) (d : Array) (t : Span)
     → (p .x ≡ longOf (take 4 (drop (at + 4) f))) × (p .y ≡ longOf (take 4 (drop (at + 4 + 4) f)))
-    → optionalValue a ≡ realIf (angle fl) f (at + 12) → optionalValue b ≡ realIf (magnif fl) f (at + x) → ArrayIs (array fl) f at g d
-    → (spanText f t ≡ value string (take (size - n) (drop (at + n) f))) × SpanIn (at + n + (size - n)) t
+    → (optionalValue a ≡ realIf (angle fl) f (at + 12)) × AnswerAt f (at + 12) a → (optionalValue b ≡ realIf (magnif fl) f (at + x)) × AnswerAt f (at + x) b → ArrayIs (array fl) f at g d
+    → (spanText f t ≡ value string (take (size - n) (drop (at + n) f))) × SpanAt (at + n) (at + n + (size - n)) t
     → ReadAt sref fl f at size (Sref (record { at = p; angle = a; magnif = b; array = d; name = t }))
-unfolding FieldsIn fieldValues valuesAt layout
+unfolding FieldsAt fieldValues fieldsKind valuesAt layout
 sref-by {fl} {f} {at} {size} h p a b d t ep ea eb ed et =
     let last = value string (tail f at size (srefName fl)) ∷ missing ∷ [] in
     record {
-      inside = omega arith;
+      kind-is = refl;
+      stands = (ea .1, subst (λ (k : ℕ). AnswerAt f (at + k) b) (h .second-is) (eb .1), (et .1 .0 ∙ ap (λ (k : ℕ). at + k) (h .last-is), omega arith));
       meant =
-          (long-value f (at + 4) (omega arith) (ep .0) then second-value f (at + 4) (at + 8) (omega arith) (omega arith) (ep .1) then ea
-          then (eb ∙ ap (λ (k : ℕ). realIf (magnif fl) f (at + k)) (h .second-is))
+          (long-value f (at + 4) (omega arith) (ep .0) then second-value f (at + 4) (at + 8) (omega arith) (omega arith) (ep .1) then ea .0
+          then (eb .0 ∙ ap (λ (k : ℕ). realIf (magnif fl) f (at + k)) (h .second-is))
           then (ap (λ (v : Value). arrayValues d (v ∷ missing ∷ [])) (et .0 ∙ ap (λ (k : ℕ). value string (tail f at size k)) (h .last-is)) ∙ ed last
           ∙ ap (λ (k : ℕ). arrayIf (array fl) f at k last) (h .third-is)))
           ∙ sym (by-flags f at size (angle fl) (magnif fl) (array fl));

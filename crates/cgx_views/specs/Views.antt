@@ -5,7 +5,9 @@ use mathlib.Core.List.{List, [], _∷_}
 use Prim.Native.Nat.{ℕ, _+_, _*_, _-_, _≤_}
 use lib.ListN.{length, take, drop}
 use Rattle.cgx_spec.specs.declared.Kind.{Kind}
-use Rattle.cgx_spec.specs.Numbers.{longsOf}
+use Rattle.cgx_spec.specs.declared.Real.{Real}
+use Rattle.cgx_spec.specs.Numbers.{number, longsOf}
+use Rattle.cgx_spec.specs.Reals.{answer}
 use Rattle.cgx_spec.specs.Strings.{goodString}
 use Rattle.cgx_spec.specs.Fields.{Field, real, absent, Value, missing, numbers, value, width, Piece, pieces, lengthsFit, keeps, values}
 use Rattle.cgx_spec.specs.Kinds.{angle, magnif, array, layout}
@@ -14,10 +16,12 @@ use Rattle.cgx_kinds.specs.declared.Span.{Span}
 use Rattle.cgx_kinds.specs.declared.Name.{Name}
 use Rattle.cgx_kinds.specs.declared.Name.the-variants.{Absent, Present}
 use Rattle.cgx_kinds.specs.declared.Repeat.{Repeat}
+use Rattle.cgx_kinds.specs.declared.OptionalReal.{OptionalReal}
+use Rattle.cgx_kinds.specs.declared.OptionalReal.the-variants.{Missing, Given}
 use Rattle.cgx_kinds.specs.declared.Array.{Array}
 use Rattle.cgx_kinds.specs.declared.Fields.{Fields}
 use Rattle.cgx_kinds.specs.declared.Fields.the-variants.{Library, Struct, Cprpty, Property, Layer, Box, Poly, Wire, Text, Sref, Endlib}
-use Rattle.cgx_kinds.specs.Meant.{arrayValues, fieldValues}
+use Rattle.cgx_kinds.specs.Meant.{arrayValues, fieldValues, fieldsKind}
 
 -- A record whose fields have lengths that they may have (rule 8), and whose strings are good (rule 11).
 pub record Readable (k : Kind) (fl : ℕ) (f : List ℕ) (at size : ℕ) : Type 0 where
@@ -37,35 +41,63 @@ piecesAt f at size (x ∷ xs) o =
 unfoldable pub valuesAt : Kind → ℕ → List ℕ → ℕ → ℕ → List Value
 valuesAt k fl f at size = values (piecesAt f at size (layout k fl) 4)
 
--- ---- the parts of the file that fields name end at byte e or before
+-- ---- an SREF: the angle stands 12 bytes on, what follows behind what stands before it
 
-abbrev pub SpanIn : ℕ → Span → Type 0
-SpanIn e s = s .at + s .len ≤ e
+abbrev pub magnifOffset : Bool → ℕ
+magnifOffset a = cond a 20 12
 
-abbrev pub NameIn : ℕ → Name → Type 0
-NameIn e Absent = Unit {0}
-NameIn e (Present s) = SpanIn e s
+abbrev pub arrayOffset : Bool → Bool → ℕ
+arrayOffset a m = cond m (magnifOffset a + 8) (magnifOffset a)
 
-abbrev pub RepeatIn : ℕ → ℕ → Repeat → Type 0
-RepeatIn u e r = r .first + u * r .count ≤ e
+abbrev pub nameOffset : Bool → Bool → Bool → ℕ
+nameOffset a m r = cond r (arrayOffset a m + 24) (arrayOffset a m)
 
-unfoldable pub FieldsIn : ℕ → Fields → Type 0
-FieldsIn e (Library l) = SpanIn e (l .name)
-FieldsIn e (Struct s) = SpanIn e (s .name)
-FieldsIn e (Cprpty p) = SpanIn e (p .value)
-FieldsIn e (Property p) = SpanIn e (p .value)
-FieldsIn e (Layer l) = NameIn e (l .name)
-FieldsIn e (Box b) = RepeatIn 16 e (b .boxes)
-FieldsIn e (Poly p) = RepeatIn 8 e (p .points)
-FieldsIn e (Wire w) = RepeatIn 8 e (w .points)
-FieldsIn e (Text t) = SpanIn e (t .label)
-FieldsIn e (Sref s) = SpanIn e (s .name)
-FieldsIn e Endlib = Unit {0}
+abbrev pub srefName : ℕ → ℕ
+srefName fl = nameOffset (angle fl) (magnif fl) (array fl)
+
+-- ---- where fields stand: a text or a list begins at byte b, where its field does, and ends at byte e or before; a real is the answer of its own eight bytes
+
+abbrev pub SpanAt : ℕ → ℕ → Span → Type 0
+SpanAt b e s = (s .at ≡ b) × (s .at + s .len ≤ e)
+
+abbrev pub NameAt : ℕ → ℕ → Name → Type 0
+NameAt b e Absent = Unit {0}
+NameAt b e (Present s) = SpanAt b e s
+
+-- Things of u bytes each.
+abbrev pub RepeatAt : ℕ → ℕ → ℕ → Repeat → Type 0
+RepeatAt u b e r = (r .first ≡ b) × (r .first + u * r .count ≤ e)
+
+abbrev pub realAt : List ℕ → ℕ → Real
+realAt f b = answer (number (take 8 (drop b f)))
+
+abbrev pub AnswerAt : List ℕ → ℕ → OptionalReal → Type 0
+AnswerAt f b Missing = Unit {0}
+AnswerAt f b (Given r) = r ≡ realAt f b
+
+-- Of a record with flags fl from byte `at` to e.
+unfoldable pub FieldsAt : ℕ → List ℕ → ℕ → ℕ → Fields → Type 0
+FieldsAt fl f at e (Library l) = (l .munit ≡ realAt f (at + 4)) × (l .uunit ≡ realAt f (at + 12)) × SpanAt (at + 36) e (l .name)
+FieldsAt fl f at e (Struct s) = SpanAt (at + 20) e (s .name)
+FieldsAt fl f at e (Cprpty p) = SpanAt (at + 8) e (p .value)
+FieldsAt fl f at e (Property p) = SpanAt (at + 8) e (p .value)
+FieldsAt fl f at e (Layer l) = NameAt (at + 8) e (l .name)
+FieldsAt fl f at e (Box b) = RepeatAt 16 (at + 4) e (b .boxes)
+FieldsAt fl f at e (Poly p) = RepeatAt 8 (at + 4) e (p .points)
+FieldsAt fl f at e (Wire w) = RepeatAt 8 (at + 8) e (w .points)
+FieldsAt fl f at e (Text t) = SpanAt (at + 16) e (t .label)
+FieldsAt fl f at e (Sref s) = AnswerAt f (at + 12) (s .angle) × AnswerAt f (at + magnifOffset (angle fl)) (s .magnif) × SpanAt (at + srefName fl) e (s .name)
+FieldsAt fl f at e Endlib = Unit {0}
 
 -- What the reader of a kind answers.
 pub record ReadAt (k : Kind) (fl : ℕ) (f : List ℕ) (at size : ℕ) (r : Fields) : Type 0 where
   pub meant : fieldValues f r ≡ valuesAt k fl f at size
-  pub inside : FieldsIn (at + size) r
+  pub stands : FieldsAt fl f at (at + size) r
+  pub kind-is : fieldsKind r ≡ k
+
+-- Of a kind whose fields stand alike under all flags.
+abbrev pub ReadAlike : Kind → List ℕ → ℕ → ℕ → Fields → Type 0
+ReadAlike k f at size r = (fl : ℕ) → ReadAt k fl f at size r
 
 -- ---- strings
 
@@ -80,19 +112,7 @@ pub record OptionalAt (f : List ℕ) (at len : ℕ) : Type 0 where
   pub inside : at + len ≤ length f
   pub named : (len ≡ 0 → ⊥) → StringAt f at len
 
--- ---- an SREF: the angle stands 12 bytes on, what follows behind what stands before it
-
-abbrev pub magnifOffset : Bool → ℕ
-magnifOffset a = cond a 20 12
-
-abbrev pub arrayOffset : Bool → Bool → ℕ
-arrayOffset a m = cond m (magnifOffset a + 8) (magnifOffset a)
-
-abbrev pub nameOffset : Bool → Bool → Bool → ℕ
-nameOffset a m r = cond r (arrayOffset a m + 24) (arrayOffset a m)
-
-abbrev pub srefName : ℕ → ℕ
-srefName fl = nameOffset (angle fl) (magnif fl) (array fl)
+-- ---- the fields of an SREF that may not stand
 
 -- A real that stands, or does not.
 unfoldable pub realIf : Bool → List ℕ → ℕ → Value

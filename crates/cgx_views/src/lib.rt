@@ -30,19 +30,18 @@ ghost use mathlib.Core.Bool.{true, cond};
 ghost use Prim.Native.Nat.{_+_, _-_, _*_, _%_, _≤_, _<_};
 ghost use lib.ListN.{length, take, drop};
 ghost use Rattle.cgx_spec.specs.Numbers.{longOf};
-ghost use Rattle.cgx_spec.specs.Reals.{answerValue};
-ghost use Rattle.cgx_spec.specs.Fields.{real, date, string, optional, exactly, value, pieces, values};
+ghost use Rattle.cgx_spec.specs.Fields.{date, string, optional, value, pieces, values};
 ghost use Rattle.cgx_spec.specs.Kinds.{layout};
 ghost use Rattle.cgx_spec.specs.Walking.{recAt};
-ghost use Rattle.cgx_kinds.specs.Meant.{spanText, nameText, dateNumbers, optionalValue, fieldValues};
-ghost use Rattle.cgx_views.specs.Views.{Readable, FieldsIn, ReadAt, SpanIn, NameIn, StringAt, OptionalAt, srefName, realIf, ArrayIs};
+ghost use Rattle.cgx_kinds.specs.Meant.{spanText, nameText, dateNumbers, optionalValue, fieldValues, fieldsKind};
+ghost use Rattle.cgx_views.specs.Views.{Readable, FieldsAt, ReadAt, ReadAlike, SpanAt, NameAt, realAt, AnswerAt, StringAt, OptionalAt, srefName, realIf, ArrayIs};
 
-// The fields of the record of `size` bytes at `at`, of this kind and with these flags. The parts of the file that they name
-// end where the record ends, or before; where they begin is promised by their bytes only.
+// The fields of the record of `size` bytes at `at`, of this kind and with these flags.
 pub fn fields_of(f: &[u8], k: Kind, fl: u8, at: usize, size: usize) -> Fields
     requires { ⌜ Readable k fl (now f) at size ⌝ }
     ensures { λ r. ⌜ fieldValues (now (f .entry)) r ≡ values (pieces (layout k fl) (recAt (now (f .entry)) at size .body)) ⌝ }
-    ensures inside { λ r. ⌜ FieldsIn (at + size) r ⌝ }
+    ensures kind { λ r. ⌜ fieldsKind r ≡ k ⌝ }
+    ensures stands { λ r. ⌜ FieldsAt fl (now (f .entry)) at (at + size) r ⌝ }
 {
     match k {
         Kind::Library => library_of(f, at, size),
@@ -63,7 +62,7 @@ pub fn fields_of(f: &[u8], k: Kind, fl: u8, at: usize, size: usize) -> Fields
 
 fn library_of(f: &[u8], at: usize, size: usize) -> Fields
     requires { ⌜ StringAt (now f) (at + 36) (size - 36) ⌝ }
-    ensures { λ r. ⌜ ReadAt Kind.Library 0 (now (f .entry)) at size r ⌝ }
+    ensures { λ r. ⌜ ReadAlike Kind.Library (now (f .entry)) at size r ⌝ }
 {
     let munit = real_at(f, at + 4);
     let uunit = real_at(f, at + 12);
@@ -81,7 +80,7 @@ fn library_of(f: &[u8], at: usize, size: usize) -> Fields
 
 fn struct_of(f: &[u8], at: usize, size: usize) -> Fields
     requires { ⌜ StringAt (now f) (at + 20) (size - 20) ⌝ }
-    ensures { λ r. ⌜ ReadAt Kind.Struct 0 (now (f .entry)) at size r ⌝ }
+    ensures { λ r. ⌜ ReadAlike Kind.Struct (now (f .entry)) at size r ⌝ }
 {
     let created = date_at(f, at + 4);
     let modified = date_at(f, at + 12);
@@ -95,7 +94,7 @@ fn struct_of(f: &[u8], at: usize, size: usize) -> Fields
 
 fn cprpty_of(f: &[u8], at: usize, size: usize) -> Fields
     requires { ⌜ StringAt (now f) (at + 8) (size - 8) ⌝ }
-    ensures { λ r. ⌜ ReadAt Kind.Cprpty 0 (now (f .entry)) at size r ⌝ }
+    ensures { λ r. ⌜ ReadAlike Kind.Cprpty (now (f .entry)) at size r ⌝ }
 {
     let number = long_at(f, at + 4);
     let value = text_at(f, at + 8, size - 8);
@@ -104,7 +103,7 @@ fn cprpty_of(f: &[u8], at: usize, size: usize) -> Fields
 
 fn property_of(f: &[u8], at: usize, size: usize) -> Fields
     requires { ⌜ StringAt (now f) (at + 8) (size - 8) ⌝ }
-    ensures { λ r. ⌜ ReadAt Kind.Property 0 (now (f .entry)) at size r ⌝ }
+    ensures { λ r. ⌜ ReadAlike Kind.Property (now (f .entry)) at size r ⌝ }
 {
     let number = long_at(f, at + 4);
     let value = text_at(f, at + 8, size - 8);
@@ -113,7 +112,7 @@ fn property_of(f: &[u8], at: usize, size: usize) -> Fields
 
 fn layer_of(f: &[u8], at: usize, size: usize) -> Fields
     requires { ⌜ (8 ≤ size) × OptionalAt (now f) (at + 8) (size - 8) ⌝ }
-    ensures { λ r. ⌜ ReadAt Kind.Layer 0 (now (f .entry)) at size r ⌝ }
+    ensures { λ r. ⌜ ReadAlike Kind.Layer (now (f .entry)) at size r ⌝ }
 {
     let number = short_at(f, at + 4);
     let datatype = short_at(f, at + 6);
@@ -127,7 +126,7 @@ fn layer_of(f: &[u8], at: usize, size: usize) -> Fields
 
 fn box_of(f: &[u8], at: usize, size: usize) -> Fields
     requires { ⌜ (4 ≤ size) × (at + size ≤ length (now f)) × ((size - 4) % 16 ≡ 0) ⌝ }
-    ensures { λ r. ⌜ ReadAt Kind.Box 0 (now (f .entry)) at size r ⌝ }
+    ensures { λ r. ⌜ ReadAlike Kind.Box (now (f .entry)) at size r ⌝ }
 {
     let boxes = repeat_of(at + 4, size - 4, Boxes::BOX_SIZE);
     Fields::Box(Boxes { boxes })
@@ -135,7 +134,7 @@ fn box_of(f: &[u8], at: usize, size: usize) -> Fields
 
 fn poly_of(f: &[u8], at: usize, size: usize) -> Fields
     requires { ⌜ (4 ≤ size) × (at + size ≤ length (now f)) × ((size - 4) % 8 ≡ 0) ⌝ }
-    ensures { λ r. ⌜ ReadAt Kind.Poly 0 (now (f .entry)) at size r ⌝ }
+    ensures { λ r. ⌜ ReadAlike Kind.Poly (now (f .entry)) at size r ⌝ }
 {
     let points = repeat_of(at + 4, size - 4, Poly::PAIR_SIZE);
     Fields::Poly(Poly { points })
@@ -143,7 +142,7 @@ fn poly_of(f: &[u8], at: usize, size: usize) -> Fields
 
 fn wire_of(f: &[u8], at: usize, size: usize) -> Fields
     requires { ⌜ (8 ≤ size) × (at + size ≤ length (now f)) × ((size - 8) % 8 ≡ 0) ⌝ }
-    ensures { λ r. ⌜ ReadAt Kind.Wire 0 (now (f .entry)) at size r ⌝ }
+    ensures { λ r. ⌜ ReadAlike Kind.Wire (now (f .entry)) at size r ⌝ }
 {
     let width = long_at(f, at + 4);
     let points = repeat_of(at + 8, size - 8, Wire::PAIR_SIZE);
@@ -152,7 +151,7 @@ fn wire_of(f: &[u8], at: usize, size: usize) -> Fields
 
 fn text_of(f: &[u8], at: usize, size: usize) -> Fields
     requires { ⌜ StringAt (now f) (at + 16) (size - 16) ⌝ }
-    ensures { λ r. ⌜ ReadAt Kind.Text 0 (now (f .entry)) at size r ⌝ }
+    ensures { λ r. ⌜ ReadAlike Kind.Text (now (f .entry)) at size r ⌝ }
 {
     let anchor = point_at(f, at + 4);
     let width = long_at(f, at + 12);
@@ -193,7 +192,7 @@ fn sref_of(f: &[u8], fl: u8, at: usize, size: usize) -> Fields
 
 fn real_at(f: &[u8], at: usize) -> Real
     requires { ⌜ at + 8 ≤ length (now f) ⌝ }
-    ensures { λ r. ⌜ exactly (answerValue r) ≡ value real (take 8 (drop at (now (f .entry)))) ⌝ }
+    ensures { λ r. ⌜ r ≡ realAt (now (f .entry)) at ⌝ }
 {
     let end = at + 8;
     read_real(&f[at..end])
@@ -225,7 +224,7 @@ fn point_at(f: &[u8], at: usize) -> Point
 // A good string ends in one zero byte or in two, so that its last two bytes tell where its text ends.
 fn text_at(f: &[u8], at: usize, len: usize) -> Span
     requires { ⌜ StringAt (now f) at len ⌝ }
-    ensures { λ r. ⌜ (spanText (now (f .entry)) r ≡ value string (take len (drop at (now (f .entry))))) × SpanIn (at + len) r ⌝ }
+    ensures { λ r. ⌜ (spanText (now (f .entry)) r ≡ value string (take len (drop at (now (f .entry))))) × SpanAt at (at + len) r ⌝ }
 {
     let n = len - 2;
     if f[at + n] == 0 {
@@ -236,7 +235,7 @@ fn text_at(f: &[u8], at: usize, len: usize) -> Span
 
 fn name_at(f: &[u8], at: usize, len: usize) -> Name
     requires { ⌜ OptionalAt (now f) at len ⌝ }
-    ensures { λ r. ⌜ (nameText (now (f .entry)) r ≡ value optional (take len (drop at (now (f .entry))))) × NameIn (at + len) r ⌝ }
+    ensures { λ r. ⌜ (nameText (now (f .entry)) r ≡ value optional (take len (drop at (now (f .entry))))) × NameAt at (at + len) r ⌝ }
 {
     if len == 0 {
         return Name::Absent;
@@ -267,7 +266,7 @@ fn after(stands: bool, o: usize, w: usize) -> usize
 
 fn real_if(f: &[u8], at: usize, stands: bool) -> OptionalReal
     requires { ⌜ (stands ≡ true → at + 8 ≤ length (now f)) ⌝ }
-    ensures { λ r. ⌜ optionalValue r ≡ realIf stands (now (f .entry)) at ⌝ }
+    ensures { λ r. ⌜ (optionalValue r ≡ realIf stands (now (f .entry)) at) × AnswerAt (now (f .entry)) at r ⌝ }
 {
     if stands {
         return OptionalReal::Given(real_at(f, at));

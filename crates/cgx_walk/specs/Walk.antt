@@ -12,9 +12,9 @@ use Rattle.cgx_spec.specs.Kinds.{kindOf}
 use Rattle.cgx_spec.specs.Order.{next}
 use Rattle.cgx_spec.specs.Records.{Placed, viewOf}
 use Rattle.cgx_spec.specs.Walking.{firstPlace, Answer, seen, done, refusedAt, stepOf, recAt}
-use Rattle.cgx_kinds.specs.Meant.{viewMeant}
+use Rattle.cgx_kinds.specs.Meant.{fieldsKind, viewMeant}
 use Rattle.cgx_kinds.specs.declared.View.{View}
-use Rattle.cgx_views.specs.Views.{FieldsIn}
+use Rattle.cgx_views.specs.Views.{FieldsAt}
 use Rattle.cgx_records.specs.Faults.{waiting}
 use Rattle.cgx_steps.specs.Steps.{Good}
 use Rattle.cgx_walk.specs.declared.Started.{Started}
@@ -42,17 +42,18 @@ HandsBack p (Record v q) = Unit {0}
 HandsBack p Done = Unit {0}
 HandsBack p (Refused n o q) = q ≡ p
 
--- The spans and lists of a view end where the record ends, at the new place, or before: so their counts are the bytes' own. Where they begin is promised by their bytes only.
-abbrev pub Inside : Outcome → Type 0
-Inside (Record v q) = FieldsIn (q .at) (v .fields)
-Inside Done = Unit {0}
-Inside (Refused n o q) = Unit {0}
+-- The fields of a view are those of its kind. Its texts and lists stand where the record has them, and end at the new place or before: so their counts are the bytes' own. Its reals
+-- are the answers of their bytes.
+abbrev pub Stands : List ℕ → Outcome → Type 0
+Stands f (Record v q) = (fieldsKind (v .fields) ≡ v .kind) × FieldsAt (v .flags) f (v .at) (q .at) (v .fields)
+Stands f Done = Unit {0}
+Stands f (Refused n o q) = Unit {0}
 
 -- What a step promises of its answer.
 pub record StepMade (f : List ℕ) (p : Place) (r : Outcome) : Type 0 where
   pub means : answerMeant f r ≡ stepOf f p
   pub back : HandsBack p r
-  pub inside : Inside r
+  pub stands : Stands f r
 
 -- ---- a known record that a step has found
 
@@ -68,7 +69,8 @@ placedAt f c at n = record { at = at; context = c; rec = recAt f at n }
 -- What is promised of its view.
 pub record Viewed (f : List ℕ) (c : Context) (at n : ℕ) (k : Kind) (v : View) : Type 0 where
   pub means : viewMeant f v ≡ viewOf k (placedAt f c at n)
-  pub inside : FieldsIn (at + n) (v .fields)
+  pub kind-is : fieldsKind (v .fields) ≡ v .kind
+  pub stands : FieldsAt (v .flags) f (v .at) (at + n) (v .fields)
 
 -- Its view, and the place after it.
 abbrev pub foundMeant : List ℕ → Context → ℕ → ℕ → Kind → Answer

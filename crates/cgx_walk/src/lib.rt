@@ -6,7 +6,7 @@ ghost use mathlib.Core.List.{List};
 ghost use Prim.Native.Nat.{ℕ};
 ghost use Rattle.cgx_spec.specs.Order.{isObject, next};
 ghost use Rattle.cgx_spec.specs.Walking.{ending};
-ghost use Rattle.cgx_walk.specs.Walk.{startOf, answerMeant, HandsBack, Inside, StepMade, Found, Viewed, foundMeant};
+ghost use Rattle.cgx_walk.specs.Walk.{startOf, answerMeant, HandsBack, Stands, StepMade, Found, Viewed, foundMeant};
 use cgx_kinds::View;
 use cgx_places::is_forged;
 use cgx_records::kind_of;
@@ -84,7 +84,7 @@ pub fn step(file: &[u8], place: Place) -> Outcome
 
 // The end of a walk: done, or refused at the place of the refusal.
 fn ended(v: Verdict, place: Place) -> Outcome
-    ensures { λ r. ⌜ ((f : List ℕ) → answerMeant f r ≡ ending v) × HandsBack place r × Inside r ⌝ }
+    ensures { λ r. ⌜ ((f : List ℕ) → (answerMeant f r ≡ ending v) × Stands f r) × HandsBack place r ⌝ }
 {
     match v {
         Verdict::Accepted => Outcome::Done,
@@ -99,7 +99,7 @@ fn ended(v: Verdict, place: Place) -> Outcome
 // The good record of n bytes and kind k at an offset, and the place after it.
 fn known(file: &[u8], c: Context, at: usize, n: usize, k: Kind) -> Outcome
     requires { ⌜ Found (now file) c at n k ⌝ }
-    ensures { λ r. ⌜ (answerMeant (now (file .entry)) r ≡ foundMeant (now (file .entry)) c at n k) × ((p : Place) → HandsBack p r) × Inside r ⌝ }
+    ensures { λ r. ⌜ (answerMeant (now (file .entry)) r ≡ foundMeant (now (file .entry)) c at n k) × ((p : Place) → HandsBack p r) × Stands (now (file .entry)) r ⌝ }
 {
     let after = next_context(c, at, k);
     let v = view_at(file, c, at, n, k, after);

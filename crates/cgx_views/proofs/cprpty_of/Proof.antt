@@ -3,8 +3,8 @@ use mathlib.Core.Path.{refl, _∙_}
 use native.Mathlib.Omega.{arith}
 use Rattle.cgx_spec.specs.Fields.{width, value, values}
 use Rattle.cgx_spec.specs.Kinds.{layout}
-use Rattle.cgx_kinds.specs.Meant.{fieldValues}
-use Rattle.cgx_views.specs.Views.{FieldsIn, piecesAt, valuesAt}
+use Rattle.cgx_kinds.specs.Meant.{fieldValues, fieldsKind}
+use Rattle.cgx_views.specs.Views.{FieldsAt, piecesAt, valuesAt}
 use Prim.Native.Nat.{_+_}
 use mir.Syntax.{w32}
 use Rattle.cgx_numbers.proofs.Signed.{back}
@@ -28,15 +28,16 @@ text-at-requires : tie.Need-text-at-requires
 text-at-requires c κs = c .before .before .pre
 
 returns : tie.Need-returns
-unfolding FieldsIn fieldValues valuesAt layout piecesAt width values value
-returns c =
+unfolding FieldsAt fieldValues fieldsKind valuesAt layout piecesAt width values value
+returns c fl =
     let s = c .before .before .before in
     record {
       meant =
           long-value (s .args .f .now) (s .args .at + 4) (omega arith) (back w32 (c .before .long-at .ok) ∙ c .before .long-at .ensures)
           then c .text-at .ensures .0
           then refl;
-      inside = omega arith;
+      kind-is = refl;
+      stands = (c .text-at .ensures .1 .0, omega arith);
     }
 
 pub cprpty-of-spec : {M : Type 1} → statement M

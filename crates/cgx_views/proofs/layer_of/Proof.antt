@@ -3,8 +3,8 @@ use mathlib.Core.Path.{refl, ap, _∙_}
 use native.Mathlib.Omega.{arith}
 use Rattle.cgx_spec.specs.Fields.{width, value, values}
 use Rattle.cgx_spec.specs.Kinds.{layout}
-use Rattle.cgx_kinds.specs.Meant.{fieldValues}
-use Rattle.cgx_views.specs.Views.{FieldsIn, piecesAt, valuesAt}
+use Rattle.cgx_kinds.specs.Meant.{fieldValues, fieldsKind}
+use Rattle.cgx_views.specs.Views.{FieldsAt, piecesAt, valuesAt}
 use mir.Syntax.{w16}
 use Rattle.cgx_numbers.proofs.Signed.{back}
 use Rattle.cgx_kinds.specs.Meant.{one}
@@ -34,8 +34,8 @@ name-at-requires : tie.Need-name-at-requires
 name-at-requires c κs = c .before .before .before .pre .1
 
 returns : tie.Need-returns
-unfolding FieldsIn fieldValues valuesAt layout piecesAt width values value
-returns c =
+unfolding FieldsAt fieldValues fieldsKind valuesAt layout piecesAt width values value
+returns c fl =
     let s = c .before .before .before .before in
     record {
       meant =
@@ -43,7 +43,8 @@ returns c =
           then ap one (back w16 (c .before .short-at2 .ok) ∙ c .before .short-at2 .ensures)
           then c .name-at .ensures .0
           then refl;
-      inside = name-in (s .args .at) 8 (s .args .size) (c .name-at .result) (s .pre .0) (c .name-at .ensures .1);
+      kind-is = refl;
+      stands = name-in (s .args .at) 8 (s .args .size) (c .name-at .result) (s .pre .0) (c .name-at .ensures .1);
     }
 
 pub layer-of-spec : {M : Type 1} → statement M

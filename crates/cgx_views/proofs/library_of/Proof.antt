@@ -1,11 +1,13 @@
 -- `cgx_views::library_of` is right: each field is read where the layout has it. Assumes nothing.
 use mathlib.Core.Path.{refl}
+use Prim.Native.Nat.{_+_}
 use native.Mathlib.Omega.{arith}
+use lib.ListN.{take, drop}
 use Rattle.cgx_spec.specs.Fields.{width, value, values}
 use Rattle.cgx_spec.specs.Kinds.{layout}
-use Rattle.cgx_kinds.specs.Meant.{fieldValues}
-use Rattle.cgx_views.specs.Views.{FieldsIn, piecesAt, valuesAt}
-use Rattle.cgx_views.proofs.Parts.{_then_}
+use Rattle.cgx_kinds.specs.Meant.{fieldValues, fieldsKind}
+use Rattle.cgx_views.specs.Views.{FieldsAt, piecesAt, valuesAt}
+use Rattle.cgx_views.proofs.Parts.{_then_, real-value}
 use Rattle.cgx_views.proofs.library_of.Statement.{statement}
 use Rattle.cgx_views.proofs.library_of.Tie as tie
 
@@ -43,17 +45,19 @@ text-at-requires : tie.Need-text-at-requires
 text-at-requires c κs = c .before .before .before .before .before .pre
 
 returns : tie.Need-returns
-unfolding FieldsIn fieldValues valuesAt layout piecesAt width values value
-returns c =
+unfolding FieldsAt fieldValues fieldsKind valuesAt layout piecesAt width values value
+returns c fl =
+    let s = c .before .before .before .before .before .before .args in
     record {
       meant =
-          c .before .before .before .before .real-at .ensures
-          then c .before .before .before .real-at2 .ensures
+          real-value (take 8 (drop (s .at + 4) (s .f .now))) (c .before .before .before .before .real-at .ensures)
+          then real-value (take 8 (drop (s .at + 12) (s .f .now))) (c .before .before .before .real-at2 .ensures)
           then c .before .before .date-at .ensures
           then c .before .date-at2 .ensures
           then c .text-at .ensures .0
           then refl;
-      inside = omega arith;
+      kind-is = refl;
+      stands = (c .before .before .before .before .real-at .ensures, c .before .before .before .real-at2 .ensures, (c .text-at .ensures .1 .0, omega arith));
     }
 
 pub library-of-spec : {M : Type 1} → statement M

@@ -3,8 +3,8 @@ use mathlib.Core.Path.{refl}
 use native.Mathlib.Omega.{arith}
 use Rattle.cgx_spec.specs.Fields.{width, value, values}
 use Rattle.cgx_spec.specs.Kinds.{layout}
-use Rattle.cgx_kinds.specs.Meant.{fieldValues}
-use Rattle.cgx_views.specs.Views.{FieldsIn, piecesAt, valuesAt}
+use Rattle.cgx_kinds.specs.Meant.{fieldValues, fieldsKind}
+use Rattle.cgx_views.specs.Views.{FieldsAt, piecesAt, valuesAt}
 use Prim.Native.Nat.{_+_, _-_}
 use Rattle.cgx_views.proofs.Parts.{_then_, repeat-value}
 use Rattle.cgx_views.proofs.poly_of.Statement.{statement}
@@ -20,14 +20,15 @@ repeat-of-requires : tie.Need-repeat-of-requires
 repeat-of-requires c κs = omega arith
 
 returns : tie.Need-returns
-unfolding FieldsIn fieldValues valuesAt layout piecesAt width values value
-returns c =
+unfolding FieldsAt fieldValues fieldsKind valuesAt layout piecesAt width values value
+returns c fl =
     let s = c .before .before in
     record {
       meant =
           repeat-value 8 (s .args .f .now) (s .args .at + 4) (s .args .size - 4) (c .repeat-of .result) (c .repeat-of .ensures)
           then refl;
-      inside = omega arith;
+      kind-is = refl;
+      stands = (c .repeat-of .ensures .0, omega arith);
     }
 
 pub poly-of-spec : {M : Type 1} → statement M

@@ -1,11 +1,10 @@
--- `cgx_views::real_at` is right: the answer of the eight bytes has their value. Assumes nothing.
+-- `cgx_views::real_at` is right: the answer is that of the eight bytes. Assumes nothing.
 use mathlib.Core.Path.{_≡_, ap, _∙_}
 use Prim.Native.Nat.{ℕ, _+_, _-_}
 use native.Mathlib.Omega.{arith}
 use lib.ListN.{take, drop}
 use Rattle.cgx_spec.specs.Numbers.{number}
 use Rattle.cgx_spec.specs.Reals.{answer}
-use Rattle.cgx_views.proofs.Parts.{real-value}
 use borrow.Author.Needs.{needs}
 use Rattle.cgx_views.proofs.real_at.Statement.{statement}
 use Rattle.cgx_views.proofs.real_at.Tie as tie
@@ -29,7 +28,7 @@ returns : tie.Need-returns
 returns c =
     let s = c .before .before .before .args in
     let n : s .at + 8 - s .at ≡ 8 = omega arith in
-    real-value (take 8 (drop (s .at) (s .f .now))) (c .read-real .ensures ∙ ap (λ (k : ℕ). answer (number (take k (drop (s .at) (s .f .now))))) n)
+    c .read-real .ensures ∙ ap (λ (k : ℕ). answer (number (take k (drop (s .at) (s .f .now))))) n
 
 pub real-at-spec : {M : Type 1} → statement M
 real-at-spec =

@@ -3,8 +3,8 @@ use mathlib.Core.Path.{refl}
 use native.Mathlib.Omega.{arith}
 use Rattle.cgx_spec.specs.Fields.{width, value, values}
 use Rattle.cgx_spec.specs.Kinds.{layout}
-use Rattle.cgx_kinds.specs.Meant.{fieldValues}
-use Rattle.cgx_views.specs.Views.{FieldsIn, piecesAt, valuesAt}
+use Rattle.cgx_kinds.specs.Meant.{fieldValues, fieldsKind}
+use Rattle.cgx_views.specs.Views.{FieldsAt, piecesAt, valuesAt}
 use Rattle.cgx_views.proofs.Parts.{_then_}
 use Rattle.cgx_views.proofs.struct_of.Statement.{statement}
 use Rattle.cgx_views.proofs.struct_of.Tie as tie
@@ -31,15 +31,16 @@ text-at-requires : tie.Need-text-at-requires
 text-at-requires c κs = c .before .before .before .pre
 
 returns : tie.Need-returns
-unfolding FieldsIn fieldValues valuesAt layout piecesAt width values value
-returns c =
+unfolding FieldsAt fieldValues fieldsKind valuesAt layout piecesAt width values value
+returns c fl =
     record {
       meant =
           c .before .before .date-at .ensures
           then c .before .date-at2 .ensures
           then c .text-at .ensures .0
           then refl;
-      inside = omega arith;
+      kind-is = refl;
+      stands = (c .text-at .ensures .1 .0, omega arith);
     }
 
 pub struct-of-spec : {M : Type 1} → statement M

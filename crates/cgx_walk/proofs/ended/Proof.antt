@@ -14,11 +14,11 @@ enum-known-v c = search needs
 
 returns : tie.Need-returns
 unfolding answerMeant ending
-returns c = rw (c .enum-told .given .1) ((λ f. refl), tt, tt)
+returns c = rw (c .enum-told .given .1) ((λ f. (refl, tt)), tt)
 
 returns-2 : tie.Need-returns-2
 unfolding answerMeant ending
-returns-2 c = rw (c .before .v .given .1) ((λ f. refl), refl, tt)
+returns-2 c = rw (c .before .v .given .1) ((λ f. (refl, tt)), refl)
 
 pub ended-spec : {M : Type 1} → statement M
 ended-spec = tie.close (tie.spec enum-told enum-known-v returns returns-2)

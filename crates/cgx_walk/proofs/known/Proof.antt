@@ -21,7 +21,7 @@ returns : tie.Need-returns
 unfolding answerMeant
 returns c =
     let s = c .before .before .before .args in
-    (ap₂ seen (c .view-at .ensures .means) (ap (λ (d : Context). record { at = s .at + s .n; context = d }) (c .before .next-context .ensures)), (λ p. tt), c .view-at .ensures .inside)
+    (ap₂ seen (c .view-at .ensures .means) (ap (λ (d : Context). record { at = s .at + s .n; context = d }) (c .before .next-context .ensures)), (λ p. tt), (c .view-at .ensures .kind-is, c .view-at .ensures .stands))
 
 pub known-spec : {M : Type 1} → statement M
 known-spec = tie.close (tie.spec next-context-requires view-at-requires add-t8 returns)

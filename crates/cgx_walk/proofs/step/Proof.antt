@@ -24,7 +24,7 @@ is-forged-requires c κs = search needs
 
 returns : tie.Need-returns Inv-loop μ-loop
 unfolding answerMeant
-returns c = record { means = step-forged (c .before .before .before .args .file .now) (c .before .before .before .args .place) (sym (c .before .is-forged .ensures) ∙ c .if1 .taken); back = refl; inside = tt }
+returns c = record { means = step-forged (c .before .before .before .args .file .now) (c .before .before .before .args .place) (sym (c .before .is-forged .ensures) ∙ c .if1 .taken); back = refl; stands = tt }
 
 loop-holds : tie.Need-loop-holds Inv-loop μ-loop
 loop-holds c =
@@ -45,7 +45,7 @@ ended-requires c κs = search needs
 returns-2 : tie.Need-returns-2 Inv-loop μ-loop
 returns-2 c =
     let f = (c .before .before .before .before .before .before .before .before .before .before .args .file .now) in
-    record { means = c .ended .ensures .0 f ∙ sym (c .before .before .before .before .before .loop .inv .2 ∙ from-stop f (c .before .before .before .before .before .before .before .before .before .before .args .place .context) (c .before .before .before .before .before .loop .at) (c .before .before .before .before .step-at .ensures) (c .before .before .found .given .1)); back = c .ended .ensures .1; inside = c .ended .ensures .2 }
+    record { means = c .ended .ensures .0 f .0 ∙ sym (c .before .before .before .before .before .loop .inv .2 ∙ from-stop f (c .before .before .before .before .before .before .before .before .before .before .args .place .context) (c .before .before .before .before .before .loop .at) (c .before .before .before .before .step-at .ensures) (c .before .before .found .given .1)); back = c .ended .ensures .1; stands = c .ended .ensures .0 f .1 }
 
 enum-known-found-2 : tie.Need-enum-known-found-2 Inv-loop μ-loop
 enum-known-found-2 c = search needs
@@ -64,7 +64,7 @@ known-requires c κs = record { good = good (c .before .before .before .before .
 
 returns-3 : tie.Need-returns-3 Inv-loop μ-loop
 returns-3 c =
-    record { means = c .known .ensures .0 ∙ sym (c .before .before .before .before .before .before .before .before .loop .inv .2 ∙ from-known (c .before .before .before .before .before .before .before .before .before .before .before .before .before .args .file .now) (c .before .before .before .before .before .before .before .before .before .before .before .before .before .args .place .context) (c .before .before .before .before .before .before .before .before .loop .at) (c .before .before .before .before .before .before .before .step-at .ensures) (c .before .before .before .before .before .found2 .given .1) (c .before .kind-of .ensures)); back = c .known .ensures .1 _; inside = c .known .ensures .2 }
+    record { means = c .known .ensures .0 ∙ sym (c .before .before .before .before .before .before .before .before .loop .inv .2 ∙ from-known (c .before .before .before .before .before .before .before .before .before .before .before .before .before .args .file .now) (c .before .before .before .before .before .before .before .before .before .before .before .before .before .args .place .context) (c .before .before .before .before .before .before .before .before .loop .at) (c .before .before .before .before .before .before .before .step-at .ensures) (c .before .before .before .before .before .found2 .given .1) (c .before .kind-of .ensures)); back = c .known .ensures .1 _; stands = c .known .ensures .2 }
 
 add-at : tie.Need-add-at Inv-loop μ-loop
 add-at c = let h = held (c .before .before .before .before .before .before .before .before .before .before .before .args .file .now) (c .before .before .before .before .before .before .before .before .before .before .before .args .place .context) (c .before .before .before .before .before .before .loop .at) (c .before .before .before .before .before .step-at .ensures) (c .before .before .before .found2 .given .1) in let a = h .least in let i = h .inside in omega arith

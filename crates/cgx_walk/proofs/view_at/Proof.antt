@@ -19,7 +19,7 @@ run-of-requires c κs = search needs
 returns : tie.Need-returns
 returns c =
     let s = c .before .before .before .before in
-    record { means = view-is (s .args .file .now) (s .args .c) (s .args .at) (s .args .n) (s .args .k) (s .pre .0) (c .before .fields-of .result) (s .args .after) (c .run-of .result) (c .before .fields-of .ensures .0) (s .pre .1) (c .run-of .ensures); inside = c .before .fields-of .ensures .1 }
+    record { means = view-is (s .args .file .now) (s .args .c) (s .args .at) (s .args .n) (s .args .k) (s .pre .0) (c .before .fields-of .result) (s .args .after) (c .run-of .result) (c .before .fields-of .ensures .0) (s .pre .1) (c .run-of .ensures); kind-is = c .before .fields-of .ensures .1 .0; stands = c .before .fields-of .ensures .1 .1 }
 
 pub view-at-spec : {M : Type 1} → statement M
 view-at-spec =
