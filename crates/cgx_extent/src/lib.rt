@@ -20,6 +20,7 @@ use cgx_steps::context_after;
 use cgx_steps::opening_fault;
 use cgx_steps::step_at;
 
+#[repr(C)]
 pub struct Sides {
     pub left: i32,
     pub bottom: i32,

@@ -1,0 +1,17 @@
+-- The struct stands for the answer of the call.
+use mathlib.Core.Path.{_∙_}
+use borrow.Author.Needs.{needs}
+use Rattle.cgx_c.proofs.reading.cgx_start.Statement.{statement}
+use Rattle.cgx_c.proofs.reading.cgx_start.Tie as tie
+
+start-requires : tie.Need-start-requires
+start-requires c κs = search needs
+
+plain-started-requires : tie.Need-plain-started-requires
+plain-started-requires c κs = search needs
+
+returns : tie.Need-returns
+returns c = c .plain-started .ensures ∙ c .before .start .ensures
+
+pub cgx-start-spec : {M : Type 1} → statement M
+cgx-start-spec = tie.close (tie.spec start-requires plain-started-requires returns)

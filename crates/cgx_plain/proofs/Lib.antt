@@ -1,0 +1,2 @@
+-- `Views`: a view that is taken over member by member.
+pub mod Views

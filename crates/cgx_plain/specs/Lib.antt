@@ -1,0 +1,2 @@
+-- What plain structs stand for.
+pub mod Plain

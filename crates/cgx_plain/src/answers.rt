@@ -1,0 +1,314 @@
+// What the reader and the writer answer.
+use crate::fields::PlainView;
+use crate::fields::no_view;
+use crate::fields::plain_view;
+use crate::places::PlainOffset;
+use crate::places::PlainPlace;
+use crate::places::no_place;
+use crate::places::plain_offset;
+use crate::places::plain_place;
+use cgx_extent::CellExtent;
+use cgx_extent::Rectangle;
+use cgx_extent::Sides;
+use cgx_kinds::Point;
+use cgx_layers::Shown;
+use cgx_lists::BoxAt;
+use cgx_lists::PointAt;
+use cgx_normal::Made;
+use cgx_spec::Offset;
+use cgx_spec::Verdict;
+use cgx_walk::Outcome;
+use cgx_walk::Started as WalkStarted;
+use cgx_writing::Answer;
+use cgx_writing::Started;
+ghost use mathlib.Core.Path.{_≡_};
+ghost use Rattle.cgx_plain.specs.Plain.{verdictFrom, startedFrom, outcomeFrom, OfItsKind, boxFrom, pointFrom, madeFrom, shownFrom, extentFrom, begunFrom, answerFrom};
+
+#[repr(C)]
+pub struct PlainVerdict {
+    pub accepted: bool,
+    pub number: u8,
+    pub at: usize,
+}
+
+// The start of a walk, or of a writer.
+#[repr(C)]
+pub struct PlainStart {
+    pub ready: bool,
+    pub number: u8,
+    pub at: PlainOffset,
+    pub place: PlainPlace,
+}
+
+// One step of a walk: 0 a record, 1 done, 2 refused.
+#[repr(C)]
+pub struct PlainStep {
+    pub status: u8,
+    pub number: u8,
+    pub at: PlainOffset,
+    // The place after the record; the old place after a refusal.
+    pub place: PlainPlace,
+    pub view: PlainView,
+}
+
+#[repr(C)]
+pub struct PlainBox {
+    pub found: bool,
+    pub left: i32,
+    pub bottom: i32,
+    pub right: i32,
+    pub top: i32,
+}
+
+#[repr(C)]
+pub struct PlainPoint {
+    pub found: bool,
+    pub point: Point,
+}
+
+#[repr(C)]
+pub struct PlainMade {
+    pub made: bool,
+    pub number: u8,
+    pub at: PlainOffset,
+    pub length: usize,
+}
+
+// A part of the file, or of the substitute.
+#[repr(C)]
+pub struct PlainShown {
+    pub own: bool,
+    pub at: usize,
+    pub len: usize,
+}
+
+// 0 a rectangle, 1 nothing, 2 refused.
+#[repr(C)]
+pub struct PlainExtent {
+    pub status: u8,
+    pub number: u8,
+    pub at: PlainOffset,
+    pub sides: Sides,
+}
+
+// What a call of the writer answers, with the place after the record, or the old place.
+#[repr(C)]
+pub struct PlainAnswer {
+    pub taken: bool,
+    pub number: u8,
+    pub at: PlainOffset,
+    pub place: PlainPlace,
+}
+
+// ---- the reader
+
+pub fn plain_verdict(v: Verdict) -> PlainVerdict
+    ensures { λ r. ⌜ verdictFrom r ≡ v ⌝ }
+{
+    match v {
+        Verdict::Accepted => PlainVerdict {
+            accepted: true,
+            number: 0,
+            at: 0,
+        },
+        Verdict::Refused { number, at } => PlainVerdict {
+            accepted: false,
+            number,
+            at,
+        },
+    }
+}
+
+pub fn plain_started(s: WalkStarted) -> PlainStart
+    ensures { λ r. ⌜ startedFrom r ≡ s ⌝ }
+{
+    match s {
+        WalkStarted::Ready(p) => PlainStart {
+            ready: true,
+            number: 0,
+            at: plain_offset(Offset::Nowhere),
+            place: plain_place(p),
+        },
+        WalkStarted::Refused { number, at } => PlainStart {
+            ready: false,
+            number,
+            at: PlainOffset { present: true, at },
+            place: no_place(),
+        },
+    }
+}
+
+pub fn plain_step(o: Outcome) -> PlainStep
+    requires { ⌜ OfItsKind o ⌝ }
+    ensures { λ r. ⌜ outcomeFrom r ≡ o ⌝ }
+{
+    match o {
+        Outcome::Record(v, p) => PlainStep {
+            status: 0,
+            number: 0,
+            at: plain_offset(Offset::Nowhere),
+            place: plain_place(p),
+            view: plain_view(v),
+        },
+        Outcome::Done => PlainStep {
+            status: 1,
+            number: 0,
+            at: plain_offset(Offset::Nowhere),
+            place: no_place(),
+            view: no_view(),
+        },
+        Outcome::Refused { number, at, place } => PlainStep {
+            status: 2,
+            number,
+            at: plain_offset(at),
+            place: plain_place(place),
+            view: no_view(),
+        },
+    }
+}
+
+pub fn plain_box(b: BoxAt) -> PlainBox
+    ensures { λ r. ⌜ boxFrom r ≡ b ⌝ }
+{
+    match b {
+        BoxAt::Outside => PlainBox {
+            found: false,
+            left: 0,
+            bottom: 0,
+            right: 0,
+            top: 0,
+        },
+        BoxAt::Found {
+            left,
+            bottom,
+            right,
+            top,
+        } => PlainBox {
+            found: true,
+            left,
+            bottom,
+            right,
+            top,
+        },
+    }
+}
+
+pub fn plain_point(p: PointAt) -> PlainPoint
+    ensures { λ r. ⌜ pointFrom r ≡ p ⌝ }
+{
+    match p {
+        PointAt::Outside => PlainPoint {
+            found: false,
+            point: Point { x: 0, y: 0 },
+        },
+        PointAt::Found(point) => PlainPoint { found: true, point },
+    }
+}
+
+pub fn plain_made(m: Made) -> PlainMade
+    ensures { λ r. ⌜ madeFrom r ≡ m ⌝ }
+{
+    match m {
+        Made::Refused { number, at } => PlainMade {
+            made: false,
+            number,
+            at: plain_offset(at),
+            length: 0,
+        },
+        Made::Length(length) => PlainMade {
+            made: true,
+            number: 0,
+            at: plain_offset(Offset::Nowhere),
+            length,
+        },
+    }
+}
+
+pub fn plain_shown(s: Shown) -> PlainShown
+    ensures { λ r. ⌜ shownFrom r ≡ s ⌝ }
+{
+    match s {
+        Shown::OfFile { at, len } => PlainShown { own: true, at, len },
+        Shown::OfSubstitute { len } => PlainShown {
+            own: false,
+            at: 0,
+            len,
+        },
+    }
+}
+
+pub fn plain_extent(e: CellExtent) -> PlainExtent
+    ensures { λ r. ⌜ extentFrom r ≡ e ⌝ }
+{
+    match e {
+        CellExtent::Refused { number, at } => PlainExtent {
+            status: 2,
+            number,
+            at: plain_offset(at),
+            sides: no_sides(),
+        },
+        CellExtent::Found(shape) => match shape {
+            Rectangle::Nothing => PlainExtent {
+                status: 1,
+                number: 0,
+                at: plain_offset(Offset::Nowhere),
+                sides: no_sides(),
+            },
+            Rectangle::Of(sides) => PlainExtent {
+                status: 0,
+                number: 0,
+                at: plain_offset(Offset::Nowhere),
+                sides,
+            },
+        },
+    }
+}
+
+fn no_sides() -> Sides {
+    Sides {
+        left: 0,
+        bottom: 0,
+        right: 0,
+        top: 0,
+    }
+}
+
+// ---- the writer
+
+pub fn plain_begun(s: Started) -> PlainStart
+    ensures { λ r. ⌜ begunFrom r ≡ s ⌝ }
+{
+    match s {
+        Started::Ready(p) => PlainStart {
+            ready: true,
+            number: 0,
+            at: plain_offset(Offset::Nowhere),
+            place: plain_place(p),
+        },
+        Started::Refused { number, at } => PlainStart {
+            ready: false,
+            number,
+            at: plain_offset(at),
+            place: no_place(),
+        },
+    }
+}
+
+pub fn plain_answer(a: Answer) -> PlainAnswer
+    ensures { λ r. ⌜ answerFrom r ≡ a ⌝ }
+{
+    match a {
+        Answer::Taken(p) => PlainAnswer {
+            taken: true,
+            number: 0,
+            at: plain_offset(Offset::Nowhere),
+            place: plain_place(p),
+        },
+        Answer::Refused { number, at, place } => PlainAnswer {
+            taken: false,
+            number,
+            at: plain_offset(at),
+            place: plain_place(place),
+        },
+    }
+}
