@@ -1,2 +1,3 @@
--- `Stored`: the stores of each kind are the bytes of its record.
+-- `Behind`: a chain of stores. `Stored`: the stores of each kind are the bytes of its record.
+pub mod Behind
 pub mod Stored

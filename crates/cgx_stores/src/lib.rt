@@ -5,16 +5,70 @@ ghost use mathlib.Core.List.{[], _∷_};
 ghost use Prim.Native.Nat.{_+_, _*_, _/_, _%_, _≤_, _<_};
 ghost use lib.ListN.{length};
 ghost use Rattle.cgx_spec.specs.Records.{bytesOf};
+ghost use Rattle.cgx_spec.specs.Reals.{normalReal};
 ghost use Rattle.cgx_put.specs.Put.{put};
-ghost use Rattle.cgx_writing.specs.Given.{written, givenLayer, givenBox, givenWire, givenText, givenEndlib};
+ghost use Rattle.cgx_writing.specs.Given.{dateBytes, written, givenLibrary, givenStruct, givenCprpty, givenProperty, givenLayer, givenBox, givenWire, givenText, givenEndlib};
 use cgx_copy::flags_meant;
+use cgx_kinds::Date;
+use cgx_numbers::WordBytes;
 use cgx_put::put_bytes;
 use cgx_put::put_long;
 use cgx_put::put_longs;
 use cgx_put::put_short;
 use cgx_put::put_text;
+use cgx_reals::normal_bytes;
 use cgx_spec::Kind;
 use cgx_writing::EndStyle;
+use cgx_writing::date_bytes;
+
+pub fn store_library(
+    buf: &mut [u8],
+    at: usize,
+    version: u8,
+    munit: WordBytes,
+    uunit: WordBytes,
+    created: Date,
+    modified: Date,
+    name: &[u8],
+)
+    requires { ⌜ (at + (38 + length (now name) / 2 * 2) ≤ length (now buf)) × (38 + length (now name) / 2 * 2 ≤ 65534) ⌝ }
+    ensures { λ _. ⌜ now (buf .exit) ≡ put (now (buf .entry)) at (bytesOf (written (givenLibrary version munit uunit created modified (now (name .entry))))) ⌝ }
+{
+    put_header(buf, at, (38 + name.len() / 2 * 2) as u32, 0, version);
+    put_real(buf, at + 4, munit);
+    put_real(buf, at + 12, uunit);
+    put_date(buf, at + 20, created);
+    put_date(buf, at + 28, modified);
+    put_text(buf, at + 36, name);
+}
+
+pub fn store_struct(buf: &mut [u8], at: usize, created: Date, modified: Date, name: &[u8])
+    requires { ⌜ (at + (22 + length (now name) / 2 * 2) ≤ length (now buf)) × (22 + length (now name) / 2 * 2 ≤ 65534) ⌝ }
+    ensures { λ _. ⌜ now (buf .exit) ≡ put (now (buf .entry)) at (bytesOf (written (givenStruct created modified (now (name .entry))))) ⌝ }
+{
+    put_header(buf, at, (22 + name.len() / 2 * 2) as u32, 1, 0);
+    put_date(buf, at + 4, created);
+    put_date(buf, at + 12, modified);
+    put_text(buf, at + 20, name);
+}
+
+pub fn store_cprpty(buf: &mut [u8], at: usize, number: i32, value: &[u8])
+    requires { ⌜ (at + (10 + length (now value) / 2 * 2) ≤ length (now buf)) × (10 + length (now value) / 2 * 2 ≤ 65534) ⌝ }
+    ensures { λ _. ⌜ now (buf .exit) ≡ put (now (buf .entry)) at (bytesOf (written (givenCprpty number (now (value .entry))))) ⌝ }
+{
+    put_header(buf, at, (10 + value.len() / 2 * 2) as u32, 2, 0);
+    put_long(buf, at + 4, number);
+    put_text(buf, at + 8, value);
+}
+
+pub fn store_property(buf: &mut [u8], at: usize, number: i32, value: &[u8])
+    requires { ⌜ (at + (10 + length (now value) / 2 * 2) ≤ length (now buf)) × (10 + length (now value) / 2 * 2 ≤ 65534) ⌝ }
+    ensures { λ _. ⌜ now (buf .exit) ≡ put (now (buf .entry)) at (bytesOf (written (givenProperty number (now (value .entry))))) ⌝ }
+{
+    put_header(buf, at, (10 + value.len() / 2 * 2) as u32, 3, 0);
+    put_long(buf, at + 4, number);
+    put_text(buf, at + 8, value);
+}
 
 pub fn store_layer(buf: &mut [u8], at: usize, number: i16, datatype: i16)
     requires { ⌜ at + 8 ≤ length (now buf) ⌝ }
@@ -83,4 +137,21 @@ fn put_header(buf: &mut [u8], at: usize, size: u32, kind: u8, flags: u8)
 {
     let header = [(size / 256) as u8, (size % 256) as u8, kind, flags];
     put_bytes(buf, at, &header);
+}
+
+// The normal real equal to the one given.
+fn put_real(buf: &mut [u8], at: usize, real: WordBytes)
+    requires { ⌜ at + 8 ≤ length (now buf) ⌝ }
+    ensures { λ _. ⌜ now (buf .exit) ≡ put (now (buf .entry)) at (normalReal real) ⌝ }
+{
+    let normal = normal_bytes(&real);
+    put_bytes(buf, at, &normal);
+}
+
+fn put_date(buf: &mut [u8], at: usize, date: Date)
+    requires { ⌜ at + 8 ≤ length (now buf) ⌝ }
+    ensures { λ _. ⌜ now (buf .exit) ≡ put (now (buf .entry)) at (dateBytes date) ⌝ }
+{
+    let bytes = date_bytes(date);
+    put_bytes(buf, at, &bytes);
 }

@@ -2,6 +2,7 @@
 -- buffer after a call. `Sizes`: the size of what each call writes. `Standing`: places that are not forged. `Histories`: calls one after another, read back. `Rooms`: room enough, and too little. `Calling`: what
 -- the calls of each kind give is well typed. `Promises`: all that `Demands` states.
 pub mod Items
+pub mod Widths
 pub mod Layouts
 pub mod Records
 pub mod Stores

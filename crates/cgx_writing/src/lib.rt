@@ -1,7 +1,10 @@
 // What a call of the writer is given, and what it answers: the types that the definitions in specs/ and the writer's code share.
 ghost use mathlib.Core.Path.{_≡_};
-ghost use Rattle.cgx_writing.specs.Given.{styleOf};
+ghost use Rattle.cgx_writing.specs.Given.{dateBytes, styleOf};
+use cgx_kinds::Date;
 use cgx_kinds::Point;
+use cgx_numbers::WordBytes;
+use cgx_numbers::short_bytes;
 use cgx_spec::Offset;
 use cgx_spec::Place;
 
@@ -34,6 +37,23 @@ pub struct Grid {
     pub rows: i32,
     pub across: Point,
     pub up: Point,
+}
+
+// The bytes that a date is written with. The writer checks these by the reader's own rule, so that there is one date rule.
+pub fn date_bytes(d: Date) -> WordBytes
+    ensures { λ r. ⌜ r ≡ dateBytes d ⌝ }
+{
+    let year = short_bytes(d.year);
+    [
+        year[0],
+        year[1],
+        d.month,
+        d.day,
+        d.hour,
+        d.minute,
+        d.second,
+        0,
+    ]
 }
 
 // ---- what is answered
