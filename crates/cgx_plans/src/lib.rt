@@ -1,21 +1,82 @@
 // Plans: the checks of a call, in their order. Each answers the number of the refusal, or 0.
 ghost use mathlib.Core.Path.{_≡_};
+ghost use mathlib.Core.Bool.{_&&_, cond};
 ghost use mathlib.Core.Option.{none, some};
 ghost use Prim.Native.Nat.{_%_};
+ghost use lib.Dec.{eqb};
 ghost use lib.ListN.{length};
+ghost use Rattle.cgx_spec.specs.Dates.{calendar};
 ghost use Rattle.cgx_spec.specs.Fields.{inOrder};
-ghost use Rattle.cgx_writing.specs.Given.{givenLayer, givenBox, givenWire, givenText, givenEndlib};
+ghost use Rattle.cgx_spec.specs.Reals.{positiveReal};
+ghost use Rattle.cgx_writing.specs.Given.{dateBytes, givenLibrary, givenStruct, givenCprpty, givenProperty, givenLayer, givenBox, givenWire, givenText, givenEndlib};
 ghost use Rattle.cgx_plans.specs.Plans.{Each, checked, textFault, givenFault, planned};
+use cgx_fields::date_good;
 use cgx_fields::no_zero;
+use cgx_kinds::Date;
 use cgx_kinds::Wire;
+use cgx_numbers::WordBytes;
 use cgx_places::is_forged;
+use cgx_reals::positive_bytes;
 use cgx_records::may_stand;
 use cgx_spec::Kind;
 use cgx_spec::Place;
 use cgx_writing::EndStyle;
+use cgx_writing::date_bytes;
 
 // The most bytes that a record may have.
 const MAX_SIZE: usize = 65534;
+
+pub fn plan_library(
+    room: usize,
+    p: Place,
+    version: u8,
+    munit: WordBytes,
+    uunit: WordBytes,
+    created: Date,
+    modified: Date,
+    name: &[u8],
+) -> u8
+    ensures { λ r. ⌜ r ≡ planned room p (givenLibrary version munit uunit created modified (now (name .entry))) ⌝ }
+{
+    let dates = dates_fault(created, modified);
+    let scales = scales_fault(munit, uunit);
+    let text = text_fault(name);
+    let fault = first_fault(dates, first_fault(scales, text));
+    checks(room, p, Kind::Library, fault, 38 + name.len() / 2 * 2)
+}
+
+pub fn plan_struct(room: usize, p: Place, created: Date, modified: Date, name: &[u8]) -> u8
+    ensures { λ r. ⌜ r ≡ planned room p (givenStruct created modified (now (name .entry))) ⌝ }
+{
+    let dates = dates_fault(created, modified);
+    let text = text_fault(name);
+    let fault = first_fault(dates, text);
+    checks(room, p, Kind::Struct, fault, 22 + name.len() / 2 * 2)
+}
+
+pub fn plan_cprpty(room: usize, p: Place, value: &[u8]) -> u8
+    ensures { λ r. ⌜ Each (λ n. r ≡ planned room p (givenCprpty n (now (value .entry)))) ⌝ }
+{
+    checks(
+        room,
+        p,
+        Kind::Cprpty,
+        text_fault(value),
+        10 + value.len() / 2 * 2,
+    )
+}
+
+pub fn plan_property(room: usize, p: Place, value: &[u8]) -> u8
+    ensures { λ r. ⌜ Each (λ n. r ≡ planned room p (givenProperty n (now (value .entry)))) ⌝ }
+{
+    checks(
+        room,
+        p,
+        Kind::Property,
+        text_fault(value),
+        10 + value.len() / 2 * 2,
+    )
+}
 
 pub fn plan_layer(room: usize, p: Place) -> u8
     ensures { λ r. ⌜ Each (λ n. Each (λ d. r ≡ planned room p (givenLayer (record { 0 = n }) (record { 0 = d }) none))) ⌝ }
@@ -101,6 +162,37 @@ fn checks(room: usize, p: Place, k: Kind, fault: u8, size: usize) -> u8
 }
 
 // ---- the rules 7 to 12
+
+// The first of two numbers of broken rules, where 0 is none.
+fn first_fault(a: u8, b: u8) -> u8
+    ensures { λ r. ⌜ r ≡ cond (eqb a 0) b a ⌝ }
+{
+    if a == 0 { b } else { a }
+}
+
+// Rule 9.
+fn dates_fault(created: Date, modified: Date) -> u8
+    ensures { λ r. ⌜ r ≡ cond (calendar (dateBytes created) && calendar (dateBytes modified)) 0 9 ⌝ }
+{
+    let good = in_calendar(created) & in_calendar(modified);
+    if good { 0 } else { 9 }
+}
+
+// The reader's test of the bytes that would be written: there is one date rule.
+fn in_calendar(d: Date) -> bool
+    ensures { λ r. ⌜ r ≡ calendar (dateBytes d) ⌝ }
+{
+    let bytes = date_bytes(d);
+    date_good(&bytes)
+}
+
+// Rule 10 of munit and uunit.
+fn scales_fault(munit: WordBytes, uunit: WordBytes) -> u8
+    ensures { λ r. ⌜ r ≡ cond (positiveReal munit && positiveReal uunit) 0 10 ⌝ }
+{
+    let good = positive_bytes(&munit) & positive_bytes(&uunit);
+    if good { 0 } else { 10 }
+}
 
 // The rules 7 to 12 of a BOX.
 fn box_fault(sides: &[i32]) -> u8
