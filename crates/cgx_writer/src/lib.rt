@@ -4,15 +4,21 @@ ghost use mathlib.Core.Option.{none, some};
 ghost use Prim.Native.Nat.{_+_, _<_};
 ghost use Rattle.cgx_spec.specs.Order.{next};
 ghost use Rattle.cgx_records.specs.Faults.{waiting};
-ghost use Rattle.cgx_writing.specs.Given.{givenLayer, givenBox, givenWire, givenText, givenEndlib};
+ghost use Rattle.cgx_writing.specs.Given.{givenLibrary, givenStruct, givenCprpty, givenProperty, givenLayer, givenBox, givenWire, givenText, givenEndlib};
 ghost use Rattle.cgx_writing.specs.Writing.{startIn, callIn, named};
 use cgx_kinds::DataType;
+use cgx_kinds::Date;
 use cgx_kinds::LayerNo;
 use cgx_kinds::Point;
+use cgx_numbers::WordBytes;
 use cgx_plans::plan_box;
+use cgx_plans::plan_cprpty;
 use cgx_plans::plan_endlib;
 use cgx_plans::plan_layer;
+use cgx_plans::plan_library;
 use cgx_plans::plan_named;
+use cgx_plans::plan_property;
+use cgx_plans::plan_struct;
 use cgx_plans::plan_text;
 use cgx_plans::plan_wire;
 use cgx_put::put_bytes;
@@ -21,9 +27,13 @@ use cgx_spec::Kind;
 use cgx_spec::Offset;
 use cgx_spec::Place;
 use cgx_stores::store_box;
+use cgx_stores::store_cprpty;
 use cgx_stores::store_endlib;
 use cgx_stores::store_layer;
+use cgx_stores::store_library;
 use cgx_stores::store_named;
+use cgx_stores::store_property;
+use cgx_stores::store_struct;
 use cgx_stores::store_text;
 use cgx_stores::store_wire;
 use cgx_writing::Answer;
@@ -46,6 +56,76 @@ pub fn start(buf: &mut [u8]) -> Started
 }
 
 // ---- the calls
+
+// Appends LIBRARY; munit and uunit are reals.
+pub fn library(
+    buf: &mut [u8],
+    place: Place,
+    version: u8,
+    munit: WordBytes,
+    uunit: WordBytes,
+    created: Date,
+    modified: Date,
+    name: &[u8],
+) -> Answer
+    ensures { λ r. ⌜ record { answer = r; buffer = now (buf .exit) } ≡ callIn (now (buf .entry)) place (givenLibrary version munit uunit created modified (now (name .entry))) ⌝ }
+{
+    let fault = plan_library(
+        buf.len(),
+        place,
+        version,
+        munit,
+        uunit,
+        created,
+        modified,
+        name,
+    );
+    if fault != 0 {
+        return refusal(fault, place);
+    }
+    let at = place.at;
+    store_library(buf, at, version, munit, uunit, created, modified, name);
+    Answer::Taken(place_after(place, Kind::Library, 38 + name.len() / 2 * 2))
+}
+
+// Appends a STRUCT, which opens a cell.
+pub fn structure(buf: &mut [u8], place: Place, created: Date, modified: Date, name: &[u8]) -> Answer
+    ensures { λ r. ⌜ record { answer = r; buffer = now (buf .exit) } ≡ callIn (now (buf .entry)) place (givenStruct created modified (now (name .entry))) ⌝ }
+{
+    let fault = plan_struct(buf.len(), place, created, modified, name);
+    if fault != 0 {
+        return refusal(fault, place);
+    }
+    let at = place.at;
+    store_struct(buf, at, created, modified, name);
+    Answer::Taken(place_after(place, Kind::Struct, 22 + name.len() / 2 * 2))
+}
+
+// Appends a CPRPTY: a property of the cell.
+pub fn cprpty(buf: &mut [u8], place: Place, number: i32, value: &[u8]) -> Answer
+    ensures { λ r. ⌜ record { answer = r; buffer = now (buf .exit) } ≡ callIn (now (buf .entry)) place (givenCprpty number (now (value .entry))) ⌝ }
+{
+    let fault = plan_cprpty(buf.len(), place, value);
+    if fault != 0 {
+        return refusal(fault, place);
+    }
+    let at = place.at;
+    store_cprpty(buf, at, number, value);
+    Answer::Taken(place_after(place, Kind::Cprpty, 10 + value.len() / 2 * 2))
+}
+
+// Appends a PROPERTY of the object that follows.
+pub fn property(buf: &mut [u8], place: Place, number: i32, value: &[u8]) -> Answer
+    ensures { λ r. ⌜ record { answer = r; buffer = now (buf .exit) } ≡ callIn (now (buf .entry)) place (givenProperty number (now (value .entry))) ⌝ }
+{
+    let fault = plan_property(buf.len(), place, value);
+    if fault != 0 {
+        return refusal(fault, place);
+    }
+    let at = place.at;
+    store_property(buf, at, number, value);
+    Answer::Taken(place_after(place, Kind::Property, 10 + value.len() / 2 * 2))
+}
 
 // Appends a LAYER without a name.
 pub fn layer(buf: &mut [u8], place: Place, number: LayerNo, datatype: DataType) -> Answer

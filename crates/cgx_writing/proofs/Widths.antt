@@ -36,7 +36,7 @@ width-is nothing = refl
 
 -- ---- the size of a record
 
-abbrev pub widths : List Item → ℕ
+abbrev widths : List Item → ℕ
 widths [] = 0
 widths (i ∷ is) = width i + widths is
 
