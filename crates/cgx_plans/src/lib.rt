@@ -12,7 +12,11 @@ ghost use Rattle.cgx_writing.specs.Given.{dateBytes, givenLibrary, givenStruct,
 ghost use Rattle.cgx_plans.specs.Plans.{Each, checked, textFault, givenFault, planned};
 use cgx_fields::date_good;
 use cgx_fields::no_zero;
+use cgx_kinds::Cprpty;
 use cgx_kinds::Date;
+use cgx_kinds::Library;
+use cgx_kinds::Property;
+use cgx_kinds::Struct;
 use cgx_kinds::Wire;
 use cgx_numbers::WordBytes;
 use cgx_places::is_forged;
@@ -26,6 +30,7 @@ use cgx_writing::date_bytes;
 // The most bytes that a record may have.
 const MAX_SIZE: usize = 65534;
 
+// A record that ends in a text: the smallest size has room for the empty one, and each whole pair of its bytes takes two more.
 pub fn plan_library(
     room: usize,
     p: Place,
@@ -42,7 +47,13 @@ pub fn plan_library(
     let scales = scales_fault(munit, uunit);
     let text = text_fault(name);
     let fault = first_fault(dates, first_fault(scales, text));
-    checks(room, p, Kind::Library, fault, 38 + name.len() / 2 * 2)
+    checks(
+        room,
+        p,
+        Kind::Library,
+        fault,
+        Library::MIN_SIZE + name.len() / 2 * 2,
+    )
 }
 
 pub fn plan_struct(room: usize, p: Place, created: Date, modified: Date, name: &[u8]) -> u8
@@ -51,7 +62,13 @@ pub fn plan_struct(room: usize, p: Place, created: Date, modified: Date, name: &
     let dates = dates_fault(created, modified);
     let text = text_fault(name);
     let fault = first_fault(dates, text);
-    checks(room, p, Kind::Struct, fault, 22 + name.len() / 2 * 2)
+    checks(
+        room,
+        p,
+        Kind::Struct,
+        fault,
+        Struct::MIN_SIZE + name.len() / 2 * 2,
+    )
 }
 
 pub fn plan_cprpty(room: usize, p: Place, value: &[u8]) -> u8
@@ -62,7 +79,7 @@ pub fn plan_cprpty(room: usize, p: Place, value: &[u8]) -> u8
         p,
         Kind::Cprpty,
         text_fault(value),
-        10 + value.len() / 2 * 2,
+        Cprpty::MIN_SIZE + value.len() / 2 * 2,
     )
 }
 
@@ -74,7 +91,7 @@ pub fn plan_property(room: usize, p: Place, value: &[u8]) -> u8
         p,
         Kind::Property,
         text_fault(value),
-        10 + value.len() / 2 * 2,
+        Property::MIN_SIZE + value.len() / 2 * 2,
     )
 }
 

@@ -9,7 +9,11 @@ ghost use Rattle.cgx_spec.specs.Reals.{normalReal};
 ghost use Rattle.cgx_put.specs.Put.{put};
 ghost use Rattle.cgx_writing.specs.Given.{dateBytes, written, givenLibrary, givenStruct, givenCprpty, givenProperty, givenLayer, givenBox, givenWire, givenText, givenEndlib};
 use cgx_copy::flags_meant;
+use cgx_kinds::Cprpty;
 use cgx_kinds::Date;
+use cgx_kinds::Library;
+use cgx_kinds::Property;
+use cgx_kinds::Struct;
 use cgx_numbers::WordBytes;
 use cgx_put::put_bytes;
 use cgx_put::put_long;
@@ -34,7 +38,13 @@ pub fn store_library(
     requires { ⌜ (at + (38 + length (now name) / 2 * 2) ≤ length (now buf)) × (38 + length (now name) / 2 * 2 ≤ 65534) ⌝ }
     ensures { λ _. ⌜ now (buf .exit) ≡ put (now (buf .entry)) at (bytesOf (written (givenLibrary version munit uunit created modified (now (name .entry))))) ⌝ }
 {
-    put_header(buf, at, (38 + name.len() / 2 * 2) as u32, 0, version);
+    put_header(
+        buf,
+        at,
+        (Library::MIN_SIZE + name.len() / 2 * 2) as u32,
+        0,
+        version,
+    );
     put_real(buf, at + 4, munit);
     put_real(buf, at + 12, uunit);
     put_date(buf, at + 20, created);
@@ -46,7 +56,13 @@ pub fn store_struct(buf: &mut [u8], at: usize, created: Date, modified: Date, na
     requires { ⌜ (at + (22 + length (now name) / 2 * 2) ≤ length (now buf)) × (22 + length (now name) / 2 * 2 ≤ 65534) ⌝ }
     ensures { λ _. ⌜ now (buf .exit) ≡ put (now (buf .entry)) at (bytesOf (written (givenStruct created modified (now (name .entry))))) ⌝ }
 {
-    put_header(buf, at, (22 + name.len() / 2 * 2) as u32, 1, 0);
+    put_header(
+        buf,
+        at,
+        (Struct::MIN_SIZE + name.len() / 2 * 2) as u32,
+        1,
+        0,
+    );
     put_date(buf, at + 4, created);
     put_date(buf, at + 12, modified);
     put_text(buf, at + 20, name);
@@ -56,7 +72,13 @@ pub fn store_cprpty(buf: &mut [u8], at: usize, number: i32, value: &[u8])
     requires { ⌜ (at + (10 + length (now value) / 2 * 2) ≤ length (now buf)) × (10 + length (now value) / 2 * 2 ≤ 65534) ⌝ }
     ensures { λ _. ⌜ now (buf .exit) ≡ put (now (buf .entry)) at (bytesOf (written (givenCprpty number (now (value .entry))))) ⌝ }
 {
-    put_header(buf, at, (10 + value.len() / 2 * 2) as u32, 2, 0);
+    put_header(
+        buf,
+        at,
+        (Cprpty::MIN_SIZE + value.len() / 2 * 2) as u32,
+        2,
+        0,
+    );
     put_long(buf, at + 4, number);
     put_text(buf, at + 8, value);
 }
@@ -65,7 +87,13 @@ pub fn store_property(buf: &mut [u8], at: usize, number: i32, value: &[u8])
     requires { ⌜ (at + (10 + length (now value) / 2 * 2) ≤ length (now buf)) × (10 + length (now value) / 2 * 2 ≤ 65534) ⌝ }
     ensures { λ _. ⌜ now (buf .exit) ≡ put (now (buf .entry)) at (bytesOf (written (givenProperty number (now (value .entry))))) ⌝ }
 {
-    put_header(buf, at, (10 + value.len() / 2 * 2) as u32, 3, 0);
+    put_header(
+        buf,
+        at,
+        (Property::MIN_SIZE + value.len() / 2 * 2) as u32,
+        3,
+        0,
+    );
     put_long(buf, at + 4, number);
     put_text(buf, at + 8, value);
 }

@@ -6,10 +6,14 @@ ghost use Rattle.cgx_spec.specs.Order.{next};
 ghost use Rattle.cgx_records.specs.Faults.{waiting};
 ghost use Rattle.cgx_writing.specs.Given.{givenLibrary, givenStruct, givenCprpty, givenProperty, givenLayer, givenBox, givenWire, givenText, givenEndlib};
 ghost use Rattle.cgx_writing.specs.Writing.{startIn, callIn, named};
+use cgx_kinds::Cprpty;
 use cgx_kinds::DataType;
 use cgx_kinds::Date;
 use cgx_kinds::LayerNo;
+use cgx_kinds::Library;
 use cgx_kinds::Point;
+use cgx_kinds::Property;
+use cgx_kinds::Struct;
 use cgx_numbers::WordBytes;
 use cgx_plans::plan_box;
 use cgx_plans::plan_cprpty;
@@ -57,7 +61,7 @@ pub fn start(buf: &mut [u8]) -> Started
 
 // ---- the calls
 
-// Appends LIBRARY; munit and uunit are reals.
+// Appends LIBRARY. The two reals are given as their eight bytes.
 pub fn library(
     buf: &mut [u8],
     place: Place,
@@ -85,7 +89,7 @@ pub fn library(
     }
     let at = place.at;
     store_library(buf, at, version, munit, uunit, created, modified, name);
-    Answer::Taken(place_after(place, Kind::Library, 38 + name.len() / 2 * 2))
+    Answer::Taken(place_after(place, Kind::Library, Library::MIN_SIZE + name.len() / 2 * 2))
 }
 
 // Appends a STRUCT, which opens a cell.
@@ -98,7 +102,7 @@ pub fn structure(buf: &mut [u8], place: Place, created: Date, modified: Date, na
     }
     let at = place.at;
     store_struct(buf, at, created, modified, name);
-    Answer::Taken(place_after(place, Kind::Struct, 22 + name.len() / 2 * 2))
+    Answer::Taken(place_after(place, Kind::Struct, Struct::MIN_SIZE + name.len() / 2 * 2))
 }
 
 // Appends a CPRPTY: a property of the cell.
@@ -111,7 +115,7 @@ pub fn cprpty(buf: &mut [u8], place: Place, number: i32, value: &[u8]) -> Answer
     }
     let at = place.at;
     store_cprpty(buf, at, number, value);
-    Answer::Taken(place_after(place, Kind::Cprpty, 10 + value.len() / 2 * 2))
+    Answer::Taken(place_after(place, Kind::Cprpty, Cprpty::MIN_SIZE + value.len() / 2 * 2))
 }
 
 // Appends a PROPERTY of the object that follows.
@@ -124,7 +128,11 @@ pub fn property(buf: &mut [u8], place: Place, number: i32, value: &[u8]) -> Answ
     }
     let at = place.at;
     store_property(buf, at, number, value);
-    Answer::Taken(place_after(place, Kind::Property, 10 + value.len() / 2 * 2))
+    Answer::Taken(place_after(
+        place,
+        Kind::Property,
+        Property::MIN_SIZE + value.len() / 2 * 2,
+    ))
 }
 
 // Appends a LAYER without a name.

@@ -25,14 +25,16 @@ returns : tie.Need-returns
 returns c =
     let f = c .before .before in
     let a = f .before .before .before .args in
-    call-refused (a .buf .now) (a .place) (givenCprpty (a .number) (a .value .now)) (f .plan-cprpty .result) (c .refusal .result) (c .refusal .ensures) (f .plan-cprpty .ensures (a .number)) (c .before .if1 .taken)
+    let g = givenCprpty (a .number) (a .value .now) in
+    call-refused (a .buf .now) (a .place) g (f .plan-cprpty .result) (c .refusal .result) (c .refusal .ensures) (f .plan-cprpty .ensures (a .number)) (c .before .if1 .taken)
 
 store-cprpty-requires : tie.Need-store-cprpty-requires
 store-cprpty-requires c κs =
     let i = c .before in
     let f = i .before in
     let a = f .before .before .before .args in
-    let h = call-fits (length (a .buf .now)) (a .place) (givenCprpty (a .number) (a .value .now)) (f .plan-cprpty .result) (10 + length (a .value .now) / 2 * 2) (f .plan-cprpty .ensures (a .number)) (i .if1 .left) (cprpty-size (a .number) (a .value .now)) in
+    let g = givenCprpty (a .number) (a .value .now) in
+    let h = call-fits (length (a .buf .now)) (a .place) g (f .plan-cprpty .result) (10 + length (a .value .now) / 2 * 2) (f .plan-cprpty .ensures (a .number)) (i .if1 .left) (cprpty-size (a .number) (a .value .now)) in
     omega (arith, h .small, h .room)
 
 mul-place-after : tie.Need-mul-place-after
@@ -46,7 +48,8 @@ place-after-requires c κs =
     let i = c .before .before .before .before in
     let f = i .before in
     let a = f .before .before .before .args in
-    let h = call-fits (length (a .buf .now)) (a .place) (givenCprpty (a .number) (a .value .now)) (f .plan-cprpty .result) (10 + length (a .value .now) / 2 * 2) (f .plan-cprpty .ensures (a .number)) (i .if1 .left) (cprpty-size (a .number) (a .value .now)) in
+    let g = givenCprpty (a .number) (a .value .now) in
+    let h = call-fits (length (a .buf .now)) (a .place) g (f .plan-cprpty .result) (10 + length (a .value .now) / 2 * 2) (f .plan-cprpty .ensures (a .number)) (i .if1 .left) (cprpty-size (a .number) (a .value .now)) in
     let n = a .buf .now in
     (omega (arith, h .small, h .room), omega (arith, h .few, h .room))
 
@@ -60,7 +63,8 @@ returns-2 c =
     let i = s .before .before in
     let f = i .before in
     let a = f .before .before .before .args in
-    call-taken (a .buf .now) (s .store-cprpty .last .0) (a .place) (c .place-after .result) (givenCprpty (a .number) (a .value .now)) (f .plan-cprpty .result) (10 + length (a .value .now) / 2 * 2) (f .plan-cprpty .ensures (a .number)) (i .if1 .left) (cprpty-size (a .number) (a .value .now)) (c .place-after .ensures)
+    let g = givenCprpty (a .number) (a .value .now) in
+    call-taken (a .buf .now) (s .store-cprpty .last .0) (a .place) (c .place-after .result) g (f .plan-cprpty .result) (10 + length (a .value .now) / 2 * 2) (f .plan-cprpty .ensures (a .number)) (i .if1 .left) (cprpty-size (a .number) (a .value .now)) (c .place-after .ensures)
     (s .store-cprpty .ensures ∙ ap (λ (z : ℤ). put (a .buf .now) (a .place .at) (bytesOf (written (givenCprpty z (a .value .now))))) (toZ-ofZ w32 (a .number) (f .before .before .before .fits .number)))
 
 pub cprpty-spec : {M : Type 1} → statement M

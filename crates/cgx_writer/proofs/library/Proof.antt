@@ -19,14 +19,16 @@ returns : tie.Need-returns
 returns c =
     let f = c .before .before in
     let a = f .before .before .before .args in
-    call-refused (a .buf .now) (a .place) (givenLibrary (a .version) (a .munit) (a .uunit) (a .created) (a .modified) (a .name .now)) (f .plan-library .result) (c .refusal .result) (c .refusal .ensures) (f .plan-library .ensures) (c .before .if1 .taken)
+    let g = givenLibrary (a .version) (a .munit) (a .uunit) (a .created) (a .modified) (a .name .now) in
+    call-refused (a .buf .now) (a .place) g (f .plan-library .result) (c .refusal .result) (c .refusal .ensures) (f .plan-library .ensures) (c .before .if1 .taken)
 
 store-library-requires : tie.Need-store-library-requires
 store-library-requires c κs =
     let i = c .before in
     let f = i .before in
     let a = f .before .before .before .args in
-    let h = call-fits (length (a .buf .now)) (a .place) (givenLibrary (a .version) (a .munit) (a .uunit) (a .created) (a .modified) (a .name .now)) (f .plan-library .result) (38 + length (a .name .now) / 2 * 2) (f .plan-library .ensures) (i .if1 .left) (library-size (a .version) (a .munit) (a .uunit) (a .created) (a .modified) (a .name .now)) in
+    let g = givenLibrary (a .version) (a .munit) (a .uunit) (a .created) (a .modified) (a .name .now) in
+    let h = call-fits (length (a .buf .now)) (a .place) g (f .plan-library .result) (38 + length (a .name .now) / 2 * 2) (f .plan-library .ensures) (i .if1 .left) (library-size (a .version) (a .munit) (a .uunit) (a .created) (a .modified) (a .name .now)) in
     omega (arith, h .small, h .room)
 
 mul-place-after : tie.Need-mul-place-after
@@ -40,7 +42,8 @@ place-after-requires c κs =
     let i = c .before .before .before .before in
     let f = i .before in
     let a = f .before .before .before .args in
-    let h = call-fits (length (a .buf .now)) (a .place) (givenLibrary (a .version) (a .munit) (a .uunit) (a .created) (a .modified) (a .name .now)) (f .plan-library .result) (38 + length (a .name .now) / 2 * 2) (f .plan-library .ensures) (i .if1 .left) (library-size (a .version) (a .munit) (a .uunit) (a .created) (a .modified) (a .name .now)) in
+    let g = givenLibrary (a .version) (a .munit) (a .uunit) (a .created) (a .modified) (a .name .now) in
+    let h = call-fits (length (a .buf .now)) (a .place) g (f .plan-library .result) (38 + length (a .name .now) / 2 * 2) (f .plan-library .ensures) (i .if1 .left) (library-size (a .version) (a .munit) (a .uunit) (a .created) (a .modified) (a .name .now)) in
     let n = a .buf .now in
     (omega (arith, h .small, h .room), omega (arith, h .few, h .room))
 
@@ -54,7 +57,8 @@ returns-2 c =
     let i = s .before .before in
     let f = i .before in
     let a = f .before .before .before .args in
-    call-taken (a .buf .now) (s .store-library .last .0) (a .place) (c .place-after .result) (givenLibrary (a .version) (a .munit) (a .uunit) (a .created) (a .modified) (a .name .now)) (f .plan-library .result) (38 + length (a .name .now) / 2 * 2) (f .plan-library .ensures) (i .if1 .left) (library-size (a .version) (a .munit) (a .uunit) (a .created) (a .modified) (a .name .now)) (c .place-after .ensures)
+    let g = givenLibrary (a .version) (a .munit) (a .uunit) (a .created) (a .modified) (a .name .now) in
+    call-taken (a .buf .now) (s .store-library .last .0) (a .place) (c .place-after .result) g (f .plan-library .result) (38 + length (a .name .now) / 2 * 2) (f .plan-library .ensures) (i .if1 .left) (library-size (a .version) (a .munit) (a .uunit) (a .created) (a .modified) (a .name .now)) (c .place-after .ensures)
     (s .store-library .ensures)
 
 pub library-spec : {M : Type 1} → statement M

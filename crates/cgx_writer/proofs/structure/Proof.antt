@@ -19,14 +19,16 @@ returns : tie.Need-returns
 returns c =
     let f = c .before .before in
     let a = f .before .before .before .args in
-    call-refused (a .buf .now) (a .place) (givenStruct (a .created) (a .modified) (a .name .now)) (f .plan-struct .result) (c .refusal .result) (c .refusal .ensures) (f .plan-struct .ensures) (c .before .if1 .taken)
+    let g = givenStruct (a .created) (a .modified) (a .name .now) in
+    call-refused (a .buf .now) (a .place) g (f .plan-struct .result) (c .refusal .result) (c .refusal .ensures) (f .plan-struct .ensures) (c .before .if1 .taken)
 
 store-struct-requires : tie.Need-store-struct-requires
 store-struct-requires c κs =
     let i = c .before in
     let f = i .before in
     let a = f .before .before .before .args in
-    let h = call-fits (length (a .buf .now)) (a .place) (givenStruct (a .created) (a .modified) (a .name .now)) (f .plan-struct .result) (22 + length (a .name .now) / 2 * 2) (f .plan-struct .ensures) (i .if1 .left) (struct-size (a .created) (a .modified) (a .name .now)) in
+    let g = givenStruct (a .created) (a .modified) (a .name .now) in
+    let h = call-fits (length (a .buf .now)) (a .place) g (f .plan-struct .result) (22 + length (a .name .now) / 2 * 2) (f .plan-struct .ensures) (i .if1 .left) (struct-size (a .created) (a .modified) (a .name .now)) in
     omega (arith, h .small, h .room)
 
 mul-place-after : tie.Need-mul-place-after
@@ -40,7 +42,8 @@ place-after-requires c κs =
     let i = c .before .before .before .before in
     let f = i .before in
     let a = f .before .before .before .args in
-    let h = call-fits (length (a .buf .now)) (a .place) (givenStruct (a .created) (a .modified) (a .name .now)) (f .plan-struct .result) (22 + length (a .name .now) / 2 * 2) (f .plan-struct .ensures) (i .if1 .left) (struct-size (a .created) (a .modified) (a .name .now)) in
+    let g = givenStruct (a .created) (a .modified) (a .name .now) in
+    let h = call-fits (length (a .buf .now)) (a .place) g (f .plan-struct .result) (22 + length (a .name .now) / 2 * 2) (f .plan-struct .ensures) (i .if1 .left) (struct-size (a .created) (a .modified) (a .name .now)) in
     let n = a .buf .now in
     (omega (arith, h .small, h .room), omega (arith, h .few, h .room))
 
@@ -54,7 +57,8 @@ returns-2 c =
     let i = s .before .before in
     let f = i .before in
     let a = f .before .before .before .args in
-    call-taken (a .buf .now) (s .store-struct .last .0) (a .place) (c .place-after .result) (givenStruct (a .created) (a .modified) (a .name .now)) (f .plan-struct .result) (22 + length (a .name .now) / 2 * 2) (f .plan-struct .ensures) (i .if1 .left) (struct-size (a .created) (a .modified) (a .name .now)) (c .place-after .ensures)
+    let g = givenStruct (a .created) (a .modified) (a .name .now) in
+    call-taken (a .buf .now) (s .store-struct .last .0) (a .place) (c .place-after .result) g (f .plan-struct .result) (22 + length (a .name .now) / 2 * 2) (f .plan-struct .ensures) (i .if1 .left) (struct-size (a .created) (a .modified) (a .name .now)) (c .place-after .ensures)
     (s .store-struct .ensures)
 
 pub structure-spec : {M : Type 1} → statement M
