@@ -5,9 +5,9 @@ ghost use mathlib.Core.Option.{none, some};
 ghost use Prim.Native.Nat.{_%_};
 ghost use lib.Dec.{eqb};
 ghost use lib.ListN.{length};
+ghost use Rattle.cgx_spec.specs.Reals.{positiveReal};
 ghost use Rattle.cgx_spec.specs.Dates.{calendar};
 ghost use Rattle.cgx_spec.specs.Fields.{inOrder};
-ghost use Rattle.cgx_spec.specs.Reals.{positiveReal};
 ghost use Rattle.cgx_writing.specs.Given.{dateBytes, givenLibrary, givenStruct, givenCprpty, givenProperty, givenLayer, givenBox, givenWire, givenText, givenEndlib};
 ghost use Rattle.cgx_plans.specs.Plans.{Each, checked, textFault, givenFault, planned};
 use cgx_fields::date_good;
@@ -30,7 +30,7 @@ use cgx_writing::date_bytes;
 // The most bytes that a record may have.
 const MAX_SIZE: usize = 65534;
 
-// A record that ends in a text: the smallest size has room for the empty one, and each whole pair of its bytes takes two more.
+// LIBRARY, STRUCT, CPRPTY and PROPERTY end in a text: their smallest size has the empty one, and each whole pair of bytes adds two.
 pub fn plan_library(
     room: usize,
     p: Place,
