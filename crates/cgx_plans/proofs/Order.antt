@@ -100,7 +100,7 @@ ended-not e a h = rw h
 
 -- ---- a plan that is 0
 
-planned-zero : (n : ℕ) (p : Place) (g : Given) → 0 ≡ planned n p g → broken (checks n p g) ≡ none
+pub planned-zero : (n : ℕ) (p : Place) (g : Given) → 0 ≡ planned n p g → broken (checks n p g) ≡ none
 unfolding planned checks rulesOf broken
 planned-zero n p g e =
     one (not (forged n p)) (mayFollow (p .context) (g .kind)) (goodFlags (g .kind) (g .flags)) (enoughGiven g) (keepsGiven 9 g) (keepsGiven 10 g) (keepsGiven 11 g) (keepsGiven 12 g) (leb (size (written g)) maxSize) (leb (p .at + size (written g)) n) e
@@ -119,6 +119,15 @@ planned-zero n p g e =
     one true true true true true true true true false b14 e = absurd (omega arith)
     one true true true true true true true true true false e = absurd (omega arith)
     one true true true true true true true true true true e = refl
+
+-- a plan that is not 0 is the number
+pub planned-some : (n : ℕ) (p : Place) (g : Given) (m : ℕ) → m ≡ planned n p g → (m ≡ 0 → ⊥) → broken (checks n p g) ≡ some m
+unfolding planned
+planned-some n p g m e h = one (broken (checks n p g)) e
+  where
+    one : (o : Option ℕ) → m ≡ numberOr0 o → o ≡ some m
+    one none e = absurd (h e)
+    one (some k) e = ap some (sym e)
 
 -- what holds of a place and a size whose plan is 0
 pub record Fits (n : ℕ) (p : Place) (s : ℕ) : Type 0 where
@@ -151,7 +160,7 @@ call-refused buf p g n a q e h = ap (λ (x : Answer). record { answer = x; buffe
     one none e = absurd (h e)
     one (some m) e = ap (λ (k : ℕ). record { answer = Refused k (named k (p .at)) p; buffer = buf }) e ∙ (unfold settled in refl)
 
-behind-is : (p : Place) (g : Given) → placeBehind p g ≡ record { at = p .at + size (written g); context = next (p .context) (p .at) (some (g .kind)) }
+pub behind-is : (p : Place) (g : Given) → placeBehind p g ≡ record { at = p .at + size (written g); context = next (p .context) (p .at) (some (g .kind)) }
 unfolding placeBehind placeAfter contextAfter
 behind-is p g = ap (λ (o : Option Kind). record { at = p .at + size (written g); context = next (p .context) (p .at) o }) (kind-written g)
 

@@ -225,12 +225,19 @@ pub fn endlib(buf: &mut [u8], place: Place) -> Answer
     Answer::Taken(place_after(place, Kind::Endlib, 4))
 }
 
-// ---- answers
+// ---- answers, of the makers too
 
 fn refusal(n: u8, p: Place) -> Answer
     ensures { λ r. ⌜ r ≡ Answer.Refused n (named n (p .at)) p ⌝ }
 {
     let at = p.at;
+    refusal_at(n, at, p)
+}
+
+// The refusal of a record that would begin at this offset, with the place that is handed back.
+pub fn refusal_at(n: u8, at: usize, p: Place) -> Answer
+    ensures { λ r. ⌜ r ≡ Answer.Refused n (named n at) p ⌝ }
+{
     if n < 6 {
         return Answer::Refused {
             number: n,
@@ -253,7 +260,7 @@ fn refusal(n: u8, p: Place) -> Answer
 }
 
 // The place after a record of this kind and size.
-fn place_after(p: Place, k: Kind, size: usize) -> Place
+pub fn place_after(p: Place, k: Kind, size: usize) -> Place
     requires { ⌜ (p .at + size < 18446744073709551616) × (waiting (p .context .run) < 18446744073709551615) ⌝ }
     ensures { λ r. ⌜ r ≡ record { at = p .at + size; context = next (p .context) (p .at) (some k) } ⌝ }
 {
