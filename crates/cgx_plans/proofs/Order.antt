@@ -5,8 +5,8 @@ use mathlib.Core.List.{List, [], _∷_}
 use mathlib.Core.Option.{Option, none, some}
 use Prim.Native.Nat.{ℕ, _+_, _≤_, _<_}
 use native.Mathlib.Omega.{arith}
-use borrow.Author.Tests.{eqb-false, leb-true, leb-false, le-leb, lt-leb, le-ltb, lt-ltb}
-use lib.Dec.{leb, ltb, eqb}
+use borrow.Author.Tests.{eqb-false, leb-true, le-leb, lt-leb}
+use lib.Dec.{leb, eqb}
 use lib.ListN.{length}
 use Rattle.cgx_spec.specs.declared.Kind.{Kind}
 use Rattle.cgx_spec.specs.declared.Place.{Place}
@@ -27,13 +27,6 @@ use Rattle.cgx_writing.specs.Given.{Given, enoughGiven, keepsGiven, written}
 use Rattle.cgx_writing.specs.Writing.{maxSize, rulesOf, checks, named, placeBehind, settled, callIn, startIn}
 use Rattle.cgx_writing.proofs.Records.{further, checks-are, kind-written}
 use Rattle.cgx_plans.specs.Plans.{mayFollow, checked, givenFault, planned}
-
-pub lt-not : (a b : ℕ) → ltb a b ≡ not (leb b a)
-lt-not a b = one (leb b a) refl
-  where
-    one : (t : Bool) → leb b a ≡ t → ltb a b ≡ not t
-    one true e = le-ltb a b (leb-true b a e)
-    one false e = lt-ltb a b (leb-false b a e)
 
 -- ---- the order of the checks
 

@@ -7,6 +7,7 @@ ghost use lib.Dec.{eqb};
 ghost use lib.ListN.{length};
 ghost use Rattle.cgx_spec.specs.Reals.{positiveReal};
 ghost use Rattle.cgx_spec.specs.Dates.{calendar};
+ghost use lib.Signed.{leZ};
 ghost use Rattle.cgx_spec.specs.Fields.{inOrder};
 ghost use Rattle.cgx_writing.specs.Given.{dateBytes, givenLibrary, givenStruct, givenCprpty, givenProperty, givenLayer, givenBox, givenWire, givenText, givenEndlib};
 ghost use Rattle.cgx_plans.specs.Plans.{Each, checked, textFault, givenFault, planned};
@@ -224,25 +225,24 @@ fn box_fault(sides: &[i32]) -> u8
     if boxes_good(sides) { 0 } else { 10 }
 }
 
+// No early exit stands in the loop, so that it is compiled to a vector loop.
 fn boxes_good(sides: &[i32]) -> bool
     requires { ⌜ length (now sides) % 4 ≡ 0 ⌝ }
     ensures { λ r. ⌜ r ≡ inOrder (now (sides .entry)) ⌝ }
 {
+    let mut all = true;
     let mut i = 0;
     while i < sides.len() {
-        let l = sides[i];
-        let b = sides[i + 1];
-        let r = sides[i + 2];
-        let t = sides[i + 3];
-        if r < l {
-            return false;
-        }
-        if t < b {
-            return false;
-        }
+        all = all & box_good(sides[i], sides[i + 1], sides[i + 2], sides[i + 3]);
         i += 4;
     }
-    true
+    all
+}
+
+fn box_good(left: i32, bottom: i32, right: i32, top: i32) -> bool
+    ensures { λ r. ⌜ r ≡ (leZ left right && leZ bottom top) ⌝ }
+{
+    (left <= right) & (bottom <= top)
 }
 
 // The rules 7 to 12 of a WIRE.
