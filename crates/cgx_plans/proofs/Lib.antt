@@ -3,3 +3,4 @@ pub mod Dated
 pub mod Order
 pub mod Ordered
 pub mod Faults
+pub mod Polys

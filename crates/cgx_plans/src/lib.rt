@@ -2,14 +2,14 @@
 ghost use mathlib.Core.Path.{_≡_};
 ghost use mathlib.Core.Bool.{_&&_, cond};
 ghost use mathlib.Core.Option.{none, some};
-ghost use Prim.Native.Nat.{_%_};
+ghost use Prim.Native.Nat.{_%_, _≤_};
 ghost use lib.Dec.{eqb};
 ghost use lib.ListN.{length};
 ghost use Rattle.cgx_spec.specs.Reals.{positiveReal};
 ghost use Rattle.cgx_spec.specs.Dates.{calendar};
 ghost use lib.Signed.{leZ};
-ghost use Rattle.cgx_spec.specs.Fields.{inOrder};
-ghost use Rattle.cgx_writing.specs.Given.{dateBytes, givenLibrary, givenStruct, givenCprpty, givenProperty, givenLayer, givenBox, givenWire, givenText, givenEndlib};
+ghost use Rattle.cgx_spec.specs.Fields.{inOrder, closed};
+ghost use Rattle.cgx_writing.specs.Given.{dateBytes, givenLibrary, givenStruct, givenCprpty, givenProperty, givenLayer, givenBox, givenWire, givenText, givenEndlib, meets, givenPoly};
 ghost use Rattle.cgx_plans.specs.Plans.{Each, checked, textFault, givenFault, planned};
 use cgx_fields::date_good;
 use cgx_fields::no_zero;
@@ -18,6 +18,7 @@ use cgx_kinds::Date;
 use cgx_kinds::Library;
 use cgx_kinds::Property;
 use cgx_kinds::Struct;
+use cgx_kinds::Poly;
 use cgx_kinds::Wire;
 use cgx_numbers::WordBytes;
 use cgx_places::is_forged;
@@ -118,6 +119,18 @@ pub fn plan_box(room: usize, p: Place, sides: &[i32]) -> u8
     ensures { λ r. ⌜ r ≡ planned room p (givenBox (now (sides .entry))) ⌝ }
 {
     checks(room, p, Kind::Box, box_fault(sides), 4 + 4 * sides.len())
+}
+
+pub fn plan_poly(room: usize, p: Place, points: &[i32]) -> u8
+    ensures { λ r. ⌜ r ≡ planned room p (givenPoly (now (points .entry))) ⌝ }
+{
+    checks(
+        room,
+        p,
+        Kind::Poly,
+        poly_fault(points),
+        4 + 4 * points.len(),
+    )
 }
 
 pub fn plan_wire(room: usize, p: Place, style: EndStyle, points: &[i32]) -> u8
@@ -243,6 +256,37 @@ fn box_good(left: i32, bottom: i32, right: i32, top: i32) -> bool
     ensures { λ r. ⌜ r ≡ (leZ left right && leZ bottom top) ⌝ }
 {
     (left <= right) & (bottom <= top)
+}
+
+// The rules 7 to 12 of a POLY.
+fn poly_fault(points: &[i32]) -> u8
+    ensures { λ r. ⌜ r ≡ givenFault (givenPoly (now (points .entry))) ⌝ }
+{
+    if points.len() % 2 != 0 {
+        return 8;
+    }
+    if points.len() < 2 * Poly::MIN_COUNT {
+        return 8;
+    }
+    if is_closed(points) { 0 } else { 12 }
+}
+
+// Rule 12: the first point is the last.
+fn is_closed(points: &[i32]) -> bool
+    requires { ⌜ 2 ≤ length (now points) ⌝ }
+    ensures { λ r. ⌜ r ≡ meets closed (now (points .entry)) ⌝ }
+{
+    let last = points.len() - 2;
+    let x = same_long(points[0], points[last]);
+    let y = same_long(points[1], points[last + 1]);
+    x & y
+}
+
+// Equality as the definitions have it, by their order.
+fn same_long(a: i32, b: i32) -> bool
+    ensures { λ r. ⌜ r ≡ (leZ a b && leZ b a) ⌝ }
+{
+    (a <= b) & (b <= a)
 }
 
 // The rules 7 to 12 of a WIRE.

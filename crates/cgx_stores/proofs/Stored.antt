@@ -35,13 +35,17 @@ module _ (n : LayerNo) (d : DataType) where
 
 -- ---- BOX
 
+-- longs alone, of a record of this type
+pub longs-store : (t : ℕ) (zs : List ℤ) (l : List ℕ) (at : ℕ) → let b = longsBytes zs ++ [] in put (put l at (heads (4 + 4 * length zs) t 0)) (at + 4) (longsBytes zs) ≡ put l at (heads (4 + length b) t 0 ++ b)
+longs-store t zs l at =
+    put-next l at 4 (at + 4) (heads (4 + 4 * length zs) t 0) (longsBytes zs) refl refl
+    ∙ ap (λ (k : ℕ). put l at (heads (4 + k) t 0 ++ longsBytes zs)) (sym (length-longs zs))
+    ∙ ap (λ (b : List ℕ). put l at (heads (4 + length b) t 0 ++ b)) (sym (append-nil (longsBytes zs)))
+
 module _ (zs : List ℤ) where
   pub box-store : (l : List ℕ) (at : ℕ) → put (put l at (heads (4 + 4 * length zs) 5 0)) (at + 4) (longsBytes zs) ≡ put l at (bytesOf (written (givenBox zs)))
   unfolding bytesOf written givenBox stored typeByte flagsOf flagsFor meant
-  box-store l at =
-      put-next l at 4 (at + 4) (heads (4 + 4 * length zs) 5 0) (longsBytes zs) refl refl
-      ∙ ap (λ (k : ℕ). put l at (heads (4 + k) 5 0 ++ longsBytes zs)) (sym (length-longs zs))
-      ∙ ap (λ (b : List ℕ). put l at (heads (4 + length b) 5 0 ++ b)) (sym (append-nil (longsBytes zs)))
+  box-store = longs-store 5 zs
 
 -- ---- LAYER with a name
 

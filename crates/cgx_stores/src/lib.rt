@@ -7,7 +7,7 @@ ghost use lib.ListN.{length};
 ghost use Rattle.cgx_spec.specs.Reals.{normalReal};
 ghost use Rattle.cgx_spec.specs.Records.{bytesOf};
 ghost use Rattle.cgx_put.specs.Put.{put};
-ghost use Rattle.cgx_writing.specs.Given.{dateBytes, written, givenLibrary, givenStruct, givenCprpty, givenProperty, givenLayer, givenBox, givenWire, givenText, givenEndlib};
+ghost use Rattle.cgx_writing.specs.Given.{dateBytes, written, givenLibrary, givenStruct, givenCprpty, givenProperty, givenLayer, givenBox, givenWire, givenText, givenEndlib, givenPoly};
 use cgx_copy::flags_meant;
 use cgx_kinds::Cprpty;
 use cgx_kinds::Date;
@@ -123,6 +123,14 @@ pub fn store_box(buf: &mut [u8], at: usize, sides: &[i32])
 {
     put_header(buf, at, (4 + 4 * sides.len()) as u32, 5, 0);
     put_longs(buf, at + 4, sides);
+}
+
+pub fn store_poly(buf: &mut [u8], at: usize, points: &[i32])
+    requires { ⌜ (at + (4 + 4 * length (now points)) ≤ length (now buf)) × (4 + 4 * length (now points) ≤ 65534) ⌝ }
+    ensures { λ _. ⌜ now (buf .exit) ≡ put (now (buf .entry)) at (bytesOf (written (givenPoly (now (points .entry))))) ⌝ }
+{
+    put_header(buf, at, (4 + 4 * points.len()) as u32, 6, 0);
+    put_longs(buf, at + 4, points);
 }
 
 pub fn store_wire(buf: &mut [u8], at: usize, style: EndStyle, width: i32, points: &[i32])

@@ -4,7 +4,7 @@ ghost use mathlib.Core.Option.{none, some};
 ghost use Prim.Native.Nat.{_+_, _<_};
 ghost use Rattle.cgx_spec.specs.Order.{next};
 ghost use Rattle.cgx_records.specs.Faults.{waiting};
-ghost use Rattle.cgx_writing.specs.Given.{givenLibrary, givenStruct, givenCprpty, givenProperty, givenLayer, givenBox, givenWire, givenText, givenEndlib};
+ghost use Rattle.cgx_writing.specs.Given.{givenLibrary, givenStruct, givenCprpty, givenProperty, givenLayer, givenBox, givenWire, givenText, givenEndlib, givenPoly};
 ghost use Rattle.cgx_writing.specs.Writing.{startIn, callIn, named};
 use cgx_kinds::Cprpty;
 use cgx_kinds::DataType;
@@ -23,6 +23,7 @@ use cgx_plans::plan_library;
 use cgx_plans::plan_named;
 use cgx_plans::plan_property;
 use cgx_plans::plan_struct;
+use cgx_plans::plan_poly;
 use cgx_plans::plan_text;
 use cgx_plans::plan_wire;
 use cgx_put::put_bytes;
@@ -38,6 +39,7 @@ use cgx_stores::store_library;
 use cgx_stores::store_named;
 use cgx_stores::store_property;
 use cgx_stores::store_struct;
+use cgx_stores::store_poly;
 use cgx_stores::store_text;
 use cgx_stores::store_wire;
 use cgx_writing::Answer;
@@ -182,6 +184,19 @@ pub fn boxes(buf: &mut [u8], place: Place, sides: &[i32]) -> Answer
     let at = place.at;
     store_box(buf, at, sides);
     Answer::Taken(place_after(place, Kind::Box, 4 + 4 * sides.len()))
+}
+
+// Appends a POLY: x and y of each point, the first again at the end.
+pub fn poly(buf: &mut [u8], place: Place, points: &[i32]) -> Answer
+    ensures { λ r. ⌜ record { answer = r; buffer = now (buf .exit) } ≡ callIn (now (buf .entry)) place (givenPoly (now (points .entry))) ⌝ }
+{
+    let fault = plan_poly(buf.len(), place, points);
+    if fault != 0 {
+        return refusal(fault, place);
+    }
+    let at = place.at;
+    store_poly(buf, at, points);
+    Answer::Taken(place_after(place, Kind::Poly, 4 + 4 * points.len()))
 }
 
 // Appends a WIRE: x and y of each point.

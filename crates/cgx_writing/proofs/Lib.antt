@@ -13,3 +13,4 @@ pub mod Rooms
 pub mod Calling
 pub mod Specimens
 pub mod Promises
+pub mod Polys
