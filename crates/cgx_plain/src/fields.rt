@@ -33,6 +33,12 @@ ghost use Rattle.cgx_spec.specs.Restated.{typeByte};
 ghost use Rattle.cgx_kinds.specs.Meant.{fieldsKind};
 ghost use Rattle.cgx_plain.specs.Plain.{realFrom, optionalFrom, arrayFrom, fieldsFrom, viewFrom};
 
+// A real as it stands in a file.
+#[repr(C)]
+pub struct PlainEight {
+    pub bytes: [u8; 8],
+}
+
 // A real: the double that equals it where it is exact, else its sign, exponent and mantissa.
 #[repr(C)]
 pub struct PlainReal {

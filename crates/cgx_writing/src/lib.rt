@@ -32,6 +32,7 @@ impl EndStyle {
 }
 
 // The array of an SREF: it counts where flag 8 is set.
+#[repr(C)]
 pub struct Grid {
     pub cols: i32,
     pub rows: i32,

@@ -1,0 +1,34 @@
+-- The struct stands for the answer of the call.
+use Rattle.cgx_spec.specs.declared.Place.{Place}
+use Rattle.cgx_makers.specs.Makers.{allIn, frameCalls}
+use mathlib.Core.Path.{_≡_, _∙_}
+use mir.Syntax.{w32}
+use Rattle.cgx_numbers.proofs.Signed.{back}
+use Rattle.cgx_c.proofs.Calls.{called}
+use borrow.Author.Needs.{needs}
+use Rattle.cgx_c.proofs.writing.cgx_write_caption_frame.Statement.{statement}
+use Rattle.cgx_c.proofs.writing.cgx_write_caption_frame.Tie as tie
+
+place-from-requires : tie.Need-place-from-requires
+place-from-requires c κs = search needs
+
+caption-frame-requires : tie.Need-caption-frame-requires
+caption-frame-requires c κs = search needs
+
+plain-answer-requires : tie.Need-plain-answer-requires
+plain-answer-requires c κs = search needs
+
+same-length : tie.Need-same-length
+same-length c = search needs
+
+returns : tie.Need-returns
+returns c =
+    let t = c .before .before .before .before .before .before .before .before in
+    let s = t .args in
+    let q : allIn (s .buf .now) (c .before .before .before .before .place-from .result) _ ≡ _ = λ i. allIn (s .buf .now) (c .before .before .before .before .place-from .result) (frameCalls (back w32 {z = s .left} (t .fits .left .sfits) i) (back w32 {z = s .bottom} (t .fits .bottom .sfits) i) (back w32 {z = s .right} (t .fits .right .sfits) i) (back w32 {z = s .top} (t .fits .top .sfits) i) (s .label .now)) in
+    called (λ (p : Place). allIn (s .buf .now) p (frameCalls (s .left) (s .bottom) (s .right) (s .top) (s .label .now))) _ (c .plain-answer .ensures) (c .before .before .before .before .place-from .ensures) (c .before .before .before .caption-frame .ensures ∙ q)
+
+pub cgx-write-caption-frame-spec : {M : Type 1} → statement M
+cgx-write-caption-frame-spec =
+    tie.close
+    (tie.spec place-from-requires caption-frame-requires plain-answer-requires same-length returns)

@@ -1,0 +1,35 @@
+-- The struct stands for the answer of the call.
+use Rattle.cgx_spec.specs.declared.Place.{Place}
+use Rattle.cgx_writing.specs.Given.{givenProperty}
+use Rattle.cgx_writing.specs.Writing.{callIn}
+use mathlib.Core.Path.{_≡_, _∙_}
+use mir.Syntax.{w32}
+use Rattle.cgx_numbers.proofs.Signed.{back}
+use Rattle.cgx_c.proofs.Calls.{called}
+use borrow.Author.Needs.{needs}
+use Rattle.cgx_c.proofs.writing.cgx_write_property.Statement.{statement}
+use Rattle.cgx_c.proofs.writing.cgx_write_property.Tie as tie
+
+place-from-requires : tie.Need-place-from-requires
+place-from-requires c κs = search needs
+
+property-requires : tie.Need-property-requires
+property-requires c κs = search needs
+
+plain-answer-requires : tie.Need-plain-answer-requires
+plain-answer-requires c κs = search needs
+
+same-length : tie.Need-same-length
+same-length c = search needs
+
+returns : tie.Need-returns
+returns c =
+    let t = c .before .before .before .before .before .before .before .before in
+    let s = t .args in
+    let q : callIn (s .buf .now) (c .before .before .before .before .place-from .result) _ ≡ _ = λ i. callIn (s .buf .now) (c .before .before .before .before .place-from .result) (givenProperty (back w32 {z = s .number} (t .fits .number .sfits) i) (s .value .now)) in
+    called (λ (p : Place). callIn (s .buf .now) p (givenProperty (s .number) (s .value .now))) _ (c .plain-answer .ensures) (c .before .before .before .before .place-from .ensures) (c .before .before .before .property .ensures ∙ q)
+
+pub cgx-write-property-spec : {M : Type 1} → statement M
+cgx-write-property-spec =
+    tie.close
+    (tie.spec place-from-requires property-requires plain-answer-requires same-length returns)

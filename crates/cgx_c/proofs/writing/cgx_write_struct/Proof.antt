@@ -1,0 +1,30 @@
+-- The struct stands for the answer of the call.
+use Rattle.cgx_spec.specs.declared.Place.{Place}
+use Rattle.cgx_writing.specs.Given.{givenStruct}
+use Rattle.cgx_writing.specs.Writing.{callIn}
+use Rattle.cgx_c.proofs.Calls.{called}
+use borrow.Author.Needs.{needs}
+use Rattle.cgx_c.proofs.writing.cgx_write_struct.Statement.{statement}
+use Rattle.cgx_c.proofs.writing.cgx_write_struct.Tie as tie
+
+place-from-requires : tie.Need-place-from-requires
+place-from-requires c κs = search needs
+
+structure-requires : tie.Need-structure-requires
+structure-requires c κs = search needs
+
+plain-answer-requires : tie.Need-plain-answer-requires
+plain-answer-requires c κs = search needs
+
+same-length : tie.Need-same-length
+same-length c = search needs
+
+returns : tie.Need-returns
+returns c =
+    let s = c .before .before .before .before .before .before .before .before .args in
+    called (λ (p : Place). callIn (s .buf .now) p (givenStruct (s .created) (s .modified) (s .name .now))) _ (c .plain-answer .ensures) (c .before .before .before .before .place-from .ensures) (c .before .before .before .structure .ensures)
+
+pub cgx-write-struct-spec : {M : Type 1} → statement M
+cgx-write-struct-spec =
+    tie.close
+    (tie.spec place-from-requires structure-requires plain-answer-requires same-length returns)

@@ -1,0 +1,216 @@
+// The writer and the makers. An answer has the place after what was appended, or the old place.
+use cgx_kinds::DataType;
+use cgx_kinds::Date;
+use cgx_kinds::LayerNo;
+use cgx_kinds::Point;
+use cgx_makers::caption_frame;
+use cgx_makers::test_card;
+use cgx_plain::answers::PlainAnswer;
+use cgx_plain::answers::PlainStart;
+use cgx_plain::answers::plain_answer;
+use cgx_plain::answers::plain_begun;
+use cgx_plain::fields::PlainEight;
+use cgx_plain::places::PlainPlace;
+use cgx_plain::places::place_from;
+use cgx_writing::EndStyle;
+ghost use mathlib.Core.Path.{_≡_};
+ghost use mathlib.Core.Option.{none, some};
+ghost use Rattle.cgx_plain.specs.Plain.{placeFrom, begunFrom, answerFrom};
+ghost use Rattle.cgx_writing.specs.Given.{givenLibrary, givenStruct, givenCprpty, givenProperty, givenLayer, givenBox, givenPoly, givenWire, givenText, givenEndlib};
+ghost use Rattle.cgx_writing.specs.Writing.{startIn, callIn};
+ghost use Rattle.cgx_makers.specs.Makers.{cardCalls, frameCalls, allIn};
+
+#[no_mangle]
+pub extern "C" fn cgx_write_start(buf: &mut [u8]) -> PlainStart
+    ensures { λ r. ⌜ record { answer = begunFrom r; buffer = now (buf .exit) } ≡ startIn (now (buf .entry)) ⌝ }
+{
+    plain_begun(cgx_writer::start(buf))
+}
+
+// ---- one record a call
+
+#[no_mangle]
+pub extern "C" fn cgx_write_library(
+    buf: &mut [u8],
+    place: PlainPlace,
+    version: u8,
+    munit: PlainEight,
+    uunit: PlainEight,
+    created: Date,
+    modified: Date,
+    name: &[u8],
+) -> PlainAnswer
+    ensures { λ r. ⌜ record { answer = answerFrom r; buffer = now (buf .exit) } ≡ callIn (now (buf .entry)) (placeFrom place) (givenLibrary version (munit .bytes) (uunit .bytes) created modified (now (name .entry))) ⌝ }
+{
+    let munit_bytes = munit.bytes;
+    let uunit_bytes = uunit.bytes;
+    plain_answer(cgx_writer::library(
+        buf,
+        place_from(place),
+        version,
+        munit_bytes,
+        uunit_bytes,
+        created,
+        modified,
+        name,
+    ))
+}
+
+#[no_mangle]
+pub extern "C" fn cgx_write_struct(
+    buf: &mut [u8],
+    place: PlainPlace,
+    created: Date,
+    modified: Date,
+    name: &[u8],
+) -> PlainAnswer
+    ensures { λ r. ⌜ record { answer = answerFrom r; buffer = now (buf .exit) } ≡ callIn (now (buf .entry)) (placeFrom place) (givenStruct created modified (now (name .entry))) ⌝ }
+{
+    plain_answer(cgx_writer::structure(buf, place_from(place), created, modified, name))
+}
+
+#[no_mangle]
+pub extern "C" fn cgx_write_cprpty(
+    buf: &mut [u8],
+    place: PlainPlace,
+    number: i32,
+    value: &[u8],
+) -> PlainAnswer
+    ensures { λ r. ⌜ record { answer = answerFrom r; buffer = now (buf .exit) } ≡ callIn (now (buf .entry)) (placeFrom place) (givenCprpty number (now (value .entry))) ⌝ }
+{
+    plain_answer(cgx_writer::cprpty(buf, place_from(place), number, value))
+}
+
+#[no_mangle]
+pub extern "C" fn cgx_write_property(
+    buf: &mut [u8],
+    place: PlainPlace,
+    number: i32,
+    value: &[u8],
+) -> PlainAnswer
+    ensures { λ r. ⌜ record { answer = answerFrom r; buffer = now (buf .exit) } ≡ callIn (now (buf .entry)) (placeFrom place) (givenProperty number (now (value .entry))) ⌝ }
+{
+    plain_answer(cgx_writer::property(buf, place_from(place), number, value))
+}
+
+#[no_mangle]
+pub extern "C" fn cgx_write_layer(
+    buf: &mut [u8],
+    place: PlainPlace,
+    number: LayerNo,
+    datatype: DataType,
+) -> PlainAnswer
+    ensures { λ r. ⌜ record { answer = answerFrom r; buffer = now (buf .exit) } ≡ callIn (now (buf .entry)) (placeFrom place) (givenLayer number datatype none) ⌝ }
+{
+    plain_answer(cgx_writer::layer(buf, place_from(place), number, datatype))
+}
+
+#[no_mangle]
+pub extern "C" fn cgx_write_named_layer(
+    buf: &mut [u8],
+    place: PlainPlace,
+    number: LayerNo,
+    datatype: DataType,
+    name: &[u8],
+) -> PlainAnswer
+    ensures { λ r. ⌜ record { answer = answerFrom r; buffer = now (buf .exit) } ≡ callIn (now (buf .entry)) (placeFrom place) (givenLayer number datatype (some (now (name .entry)))) ⌝ }
+{
+    plain_answer(cgx_writer::named_layer(buf, place_from(place), number, datatype, name))
+}
+
+#[no_mangle]
+pub extern "C" fn cgx_write_box(buf: &mut [u8], place: PlainPlace, sides: &[i32]) -> PlainAnswer
+    ensures { λ r. ⌜ record { answer = answerFrom r; buffer = now (buf .exit) } ≡ callIn (now (buf .entry)) (placeFrom place) (givenBox (now (sides .entry))) ⌝ }
+{
+    plain_answer(cgx_writer::boxes(buf, place_from(place), sides))
+}
+
+#[no_mangle]
+pub extern "C" fn cgx_write_poly(buf: &mut [u8], place: PlainPlace, points: &[i32]) -> PlainAnswer
+    ensures { λ r. ⌜ record { answer = answerFrom r; buffer = now (buf .exit) } ≡ callIn (now (buf .entry)) (placeFrom place) (givenPoly (now (points .entry))) ⌝ }
+{
+    plain_answer(cgx_writer::poly(buf, place_from(place), points))
+}
+
+#[no_mangle]
+pub extern "C" fn cgx_write_wire(
+    buf: &mut [u8],
+    place: PlainPlace,
+    width: i32,
+    points: &[i32],
+) -> PlainAnswer
+    ensures { λ r. ⌜ record { answer = answerFrom r; buffer = now (buf .exit) } ≡ callIn (now (buf .entry)) (placeFrom place) (givenWire EndStyle.Unstated width (now (points .entry))) ⌝ }
+{
+    plain_answer(cgx_writer::wire(buf, place_from(place), EndStyle::Unstated, width, points))
+}
+
+#[no_mangle]
+pub extern "C" fn cgx_write_styled_wire(
+    buf: &mut [u8],
+    place: PlainPlace,
+    style: u8,
+    width: i32,
+    points: &[i32],
+) -> PlainAnswer
+    ensures { λ r. ⌜ record { answer = answerFrom r; buffer = now (buf .exit) } ≡ callIn (now (buf .entry)) (placeFrom place) (givenWire (EndStyle.Stated style) width (now (points .entry))) ⌝ }
+{
+    plain_answer(cgx_writer::wire(
+        buf,
+        place_from(place),
+        EndStyle::Stated(style),
+        width,
+        points,
+    ))
+}
+
+#[no_mangle]
+pub extern "C" fn cgx_write_text(
+    buf: &mut [u8],
+    place: PlainPlace,
+    flags: u8,
+    at: Point,
+    width: i32,
+    label: &[u8],
+) -> PlainAnswer
+    ensures { λ r. ⌜ record { answer = answerFrom r; buffer = now (buf .exit) } ≡ callIn (now (buf .entry)) (placeFrom place) (givenText flags at width (now (label .entry))) ⌝ }
+{
+    plain_answer(cgx_writer::text(buf, place_from(place), flags, at, width, label))
+}
+
+#[no_mangle]
+pub extern "C" fn cgx_write_endlib(buf: &mut [u8], place: PlainPlace) -> PlainAnswer
+    ensures { λ r. ⌜ record { answer = answerFrom r; buffer = now (buf .exit) } ≡ callIn (now (buf .entry)) (placeFrom place) givenEndlib ⌝ }
+{
+    plain_answer(cgx_writer::endlib(buf, place_from(place)))
+}
+
+// ---- the makers: all or nothing
+
+#[no_mangle]
+pub extern "C" fn cgx_write_test_card(
+    buf: &mut [u8],
+    place: PlainPlace,
+    left: i32,
+    bottom: i32,
+    right: i32,
+    top: i32,
+) -> PlainAnswer
+    ensures { λ r. ⌜ record { answer = answerFrom r; buffer = now (buf .exit) } ≡ allIn (now (buf .entry)) (placeFrom place) (cardCalls left bottom right top) ⌝ }
+{
+    plain_answer(test_card(buf, place_from(place), left, bottom, right, top))
+}
+
+#[no_mangle]
+pub extern "C" fn cgx_write_caption_frame(
+    buf: &mut [u8],
+    place: PlainPlace,
+    left: i32,
+    bottom: i32,
+    right: i32,
+    top: i32,
+    label: &[u8],
+) -> PlainAnswer
+    ensures { λ r. ⌜ record { answer = answerFrom r; buffer = now (buf .exit) } ≡ allIn (now (buf .entry)) (placeFrom place) (frameCalls left bottom right top (now (label .entry))) ⌝ }
+{
+    plain_answer(caption_frame(buf, place_from(place), left, bottom, right, top, label))
+}
