@@ -16,7 +16,7 @@ use Rattle.cgx_writing.specs.Typed.{Longs}
 use Rattle.cgx_writing.specs.Writing.{Outcome, callIn, placeOf, History, ifTaken, calls}
 use Rattle.cgx_writing.specs.Demands.{AllWell}
 use Rattle.cgx_writing.proofs.Calling.{calls-promises}
-use Rattle.cgx_makers.specs.Makers.{corners, outline, cardCalls, frameCalls, unlessRefused, inTurn, orNothing, allIn}
+use Rattle.cgx_makers.specs.Makers.{corners, cardCalls, frameCalls, unlessRefused, inTurn, orNothing, allIn}
 use Rattle.cgx_makers.specs.Demand.{MakersDemand}
 
 -- ---- all

@@ -3,4 +3,6 @@ pub mod Dated
 pub mod Order
 pub mod Ordered
 pub mod Faults
+-- `Polys`, `Srefs`: the rules 7 to 12 of these two.
 pub mod Polys
+pub mod Srefs

@@ -5,12 +5,13 @@ ghost use mathlib.Core.Option.{none, some};
 ghost use Prim.Native.Nat.{_%_, _≤_};
 ghost use lib.Dec.{eqb};
 ghost use lib.ListN.{length};
+ghost use lib.Signed.{leZ};
 ghost use Rattle.cgx_spec.specs.Reals.{positiveReal};
 ghost use Rattle.cgx_spec.specs.Dates.{calendar};
-ghost use lib.Signed.{leZ};
 ghost use Rattle.cgx_spec.specs.Fields.{inOrder, closed};
-ghost use Rattle.cgx_writing.specs.Given.{dateBytes, givenLibrary, givenStruct, givenCprpty, givenProperty, givenLayer, givenBox, givenWire, givenText, givenEndlib, meets, givenPoly};
+ghost use Rattle.cgx_writing.specs.Given.{dateBytes, meets, givenLibrary, givenStruct, givenCprpty, givenProperty, givenLayer, givenBox, givenPoly, givenWire, givenText, givenSref, givenEndlib};
 ghost use Rattle.cgx_plans.specs.Plans.{Each, checked, textFault, givenFault, planned};
+ghost use Rattle.cgx_plans.specs.Srefs.{Turned, scaleGood, gridGood};
 use cgx_fields::date_good;
 use cgx_fields::no_zero;
 use cgx_kinds::Cprpty;
@@ -18,6 +19,7 @@ use cgx_kinds::Date;
 use cgx_kinds::Library;
 use cgx_kinds::Poly;
 use cgx_kinds::Property;
+use cgx_kinds::Sref;
 use cgx_kinds::Struct;
 use cgx_kinds::Wire;
 use cgx_numbers::WordBytes;
@@ -27,7 +29,9 @@ use cgx_records::may_stand;
 use cgx_spec::Kind;
 use cgx_spec::Place;
 use cgx_writing::EndStyle;
+use cgx_writing::Grid;
 use cgx_writing::date_bytes;
+use cgx_writing::sref_size;
 
 // The most bytes that a record may have.
 const MAX_SIZE: usize = 65534;
@@ -154,6 +158,18 @@ pub fn plan_text(room: usize, p: Place, flags: u8, label: &[u8]) -> u8
         Kind::Text,
         text_fault(label),
         18 + label.len() / 2 * 2,
+    )
+}
+
+pub fn plan_sref(room: usize, p: Place, flags: u8, magnif: &[u8; 8], grid: Grid, name: &[u8]) -> u8
+    ensures { λ r. ⌜ Turned (λ at turn. r ≡ planned room p (givenSref flags at turn (now (magnif .entry)) grid (now (name .entry)))) ⌝ }
+{
+    checks(
+        room,
+        p,
+        Kind::Sref,
+        sref_fault(flags, magnif, grid, name),
+        sref_size(flags, name),
     )
 }
 
@@ -304,6 +320,40 @@ fn wire_fault(style: EndStyle, points: &[i32]) -> u8
         return 8;
     }
     0
+}
+
+// The rules 7 to 12 of an SREF.
+fn sref_fault(flags: u8, magnif: &[u8; 8], grid: Grid, name: &[u8]) -> u8
+    ensures { λ r. ⌜ Turned (λ at turn. r ≡ givenFault (givenSref flags at turn (now (magnif .entry)) grid (now (name .entry)))) ⌝ }
+{
+    if Sref::MAX_FLAGS < flags {
+        return 7;
+    }
+    if !magnif_good(flags / 2 % 2 == 1, magnif) {
+        return 10;
+    }
+    if !grid_good(flags / 8 % 2 == 1, grid) {
+        return 10;
+    }
+    text_fault(name)
+}
+
+fn magnif_good(stands: bool, magnif: &[u8; 8]) -> bool
+    ensures { λ r. ⌜ r ≡ scaleGood stands (now (magnif .entry)) ⌝ }
+{
+    if stands { positive_bytes(magnif) } else { true }
+}
+
+fn grid_good(stands: bool, grid: Grid) -> bool
+    ensures { λ r. ⌜ r ≡ gridGood stands grid ⌝ }
+{
+    let cols = grid.cols;
+    let rows = grid.rows;
+    if stands {
+        (1 <= cols) & (1 <= rows)
+    } else {
+        true
+    }
 }
 
 // Rule 11 of a text, the only one of 7 to 12 that a record with a text and no more can break.

@@ -7,7 +7,8 @@ ghost use lib.ListN.{length};
 ghost use Rattle.cgx_spec.specs.Reals.{normalReal};
 ghost use Rattle.cgx_spec.specs.Records.{bytesOf};
 ghost use Rattle.cgx_put.specs.Put.{put};
-ghost use Rattle.cgx_writing.specs.Given.{dateBytes, written, givenLibrary, givenStruct, givenCprpty, givenProperty, givenLayer, givenBox, givenWire, givenText, givenEndlib, givenPoly};
+ghost use Rattle.cgx_writing.specs.Given.{dateBytes, written, givenLibrary, givenStruct, givenCprpty, givenProperty, givenLayer, givenBox, givenPoly, givenWire, givenText, givenSref, givenEndlib};
+ghost use Rattle.cgx_writing.specs.Srefs.{realIf, gridIf, widthIf, srefSize};
 use cgx_copy::flags_meant;
 use cgx_kinds::Cprpty;
 use cgx_kinds::Date;
@@ -23,7 +24,9 @@ use cgx_put::put_text;
 use cgx_reals::normal_bytes;
 use cgx_spec::Kind;
 use cgx_writing::EndStyle;
+use cgx_writing::Grid;
 use cgx_writing::date_bytes;
+use cgx_writing::sref_size;
 
 pub fn store_library(
     buf: &mut [u8],
@@ -159,6 +162,29 @@ pub fn store_text(buf: &mut [u8], at: usize, flags: u8, x: i32, y: i32, width: i
     put_text(buf, at + 16, label);
 }
 
+pub fn store_sref(
+    buf: &mut [u8],
+    at: usize,
+    flags: u8,
+    x: i32,
+    y: i32,
+    angle: &[u8; 8],
+    magnif: &[u8; 8],
+    grid: Grid,
+    name: &[u8],
+)
+    requires { ⌜ (at + srefSize flags (length (now name)) ≤ length (now buf)) × (srefSize flags (length (now name)) ≤ 65534) ⌝ }
+    ensures { λ _. ⌜ now (buf .exit) ≡ put (now (buf .entry)) at (bytesOf (written (givenSref flags (record { x = x; y = y }) (now (angle .entry)) (now (magnif .entry)) grid (now (name .entry))))) ⌝ }
+{
+    put_header(buf, at, sref_size(flags, name) as u32, 9, flags);
+    put_long(buf, at + 4, x);
+    put_long(buf, at + 8, y);
+    let magnif_at = put_real_if(buf, at + 12, flags % 2 == 1, angle);
+    let array_at = put_real_if(buf, magnif_at, flags / 2 % 2 == 1, magnif);
+    let name_at = put_grid_if(buf, array_at, flags / 8 % 2 == 1, grid);
+    put_text(buf, name_at, name);
+}
+
 pub fn store_endlib(buf: &mut [u8], at: usize)
     requires { ⌜ at + 4 ≤ length (now buf) ⌝ }
     ensures { λ _. ⌜ now (buf .exit) ≡ put (now (buf .entry)) at (bytesOf (written givenEndlib)) ⌝ }
@@ -190,4 +216,34 @@ fn put_date(buf: &mut [u8], at: usize, date: Date)
 {
     let bytes = date_bytes(date);
     put_bytes(buf, at, &bytes);
+}
+
+// ---- fields that stand only where their flag is set: each answers the offset behind it
+
+fn put_real_if(buf: &mut [u8], at: usize, stands: bool, real: &[u8; 8]) -> usize
+    requires { ⌜ at + widthIf stands 8 ≤ length (now buf) ⌝ }
+    ensures { λ r. ⌜ (r ≡ at + widthIf stands 8) × (now (buf .exit) ≡ put (now (buf .entry)) at (realIf stands (now (real .entry)))) ⌝ }
+{
+    if stands {
+        let normal = normal_bytes(real);
+        put_bytes(buf, at, &normal);
+        return at + 8;
+    }
+    at
+}
+
+fn put_grid_if(buf: &mut [u8], at: usize, stands: bool, grid: Grid) -> usize
+    requires { ⌜ at + widthIf stands 24 ≤ length (now buf) ⌝ }
+    ensures { λ r. ⌜ (r ≡ at + widthIf stands 24) × (now (buf .exit) ≡ put (now (buf .entry)) at (gridIf stands grid)) ⌝ }
+{
+    let cols = grid.cols;
+    let rows = grid.rows;
+    let across = grid.across;
+    let up = grid.up;
+    if stands {
+        let longs = [cols, rows, across.x, across.y, up.x, up.y];
+        put_longs(buf, at, &longs);
+        return at + 24;
+    }
+    at
 }

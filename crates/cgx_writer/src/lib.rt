@@ -4,7 +4,7 @@ ghost use mathlib.Core.Option.{none, some};
 ghost use Prim.Native.Nat.{_+_, _<_};
 ghost use Rattle.cgx_spec.specs.Order.{next};
 ghost use Rattle.cgx_records.specs.Faults.{waiting};
-ghost use Rattle.cgx_writing.specs.Given.{givenLibrary, givenStruct, givenCprpty, givenProperty, givenLayer, givenBox, givenWire, givenText, givenEndlib, givenPoly};
+ghost use Rattle.cgx_writing.specs.Given.{givenLibrary, givenStruct, givenCprpty, givenProperty, givenLayer, givenBox, givenPoly, givenWire, givenText, givenSref, givenEndlib};
 ghost use Rattle.cgx_writing.specs.Writing.{startIn, callIn, named};
 use cgx_kinds::Cprpty;
 use cgx_kinds::DataType;
@@ -23,6 +23,7 @@ use cgx_plans::plan_library;
 use cgx_plans::plan_named;
 use cgx_plans::plan_poly;
 use cgx_plans::plan_property;
+use cgx_plans::plan_sref;
 use cgx_plans::plan_struct;
 use cgx_plans::plan_text;
 use cgx_plans::plan_wire;
@@ -39,12 +40,15 @@ use cgx_stores::store_library;
 use cgx_stores::store_named;
 use cgx_stores::store_poly;
 use cgx_stores::store_property;
+use cgx_stores::store_sref;
 use cgx_stores::store_struct;
 use cgx_stores::store_text;
 use cgx_stores::store_wire;
 use cgx_writing::Answer;
 use cgx_writing::EndStyle;
+use cgx_writing::Grid;
 use cgx_writing::Started;
+use cgx_writing::sref_size;
 
 // Stores the four bytes that a file begins with.
 pub fn start(buf: &mut [u8]) -> Started
@@ -225,6 +229,30 @@ pub fn text(buf: &mut [u8], place: Place, flags: u8, at: Point, width: i32, labe
     let y = at.y;
     store_text(buf, to, flags, x, y, width, label);
     Answer::Taken(place_after(place, Kind::Text, 18 + label.len() / 2 * 2))
+}
+
+// Appends an SREF. An angle, a magnif or a grid whose flag is off is ignored.
+pub fn sref(
+    buf: &mut [u8],
+    place: Place,
+    flags: u8,
+    at: Point,
+    angle: WordBytes,
+    magnif: WordBytes,
+    grid: Grid,
+    name: &[u8],
+) -> Answer
+    ensures { λ r. ⌜ record { answer = r; buffer = now (buf .exit) } ≡ callIn (now (buf .entry)) place (givenSref flags at angle magnif grid (now (name .entry))) ⌝ }
+{
+    let fault = plan_sref(buf.len(), place, flags, &magnif, grid, name);
+    if fault != 0 {
+        return refusal(fault, place);
+    }
+    let to = place.at;
+    let x = at.x;
+    let y = at.y;
+    store_sref(buf, to, flags, x, y, &angle, &magnif, grid, name);
+    Answer::Taken(place_after(place, Kind::Sref, sref_size(flags, name)))
 }
 
 // Appends ENDLIB.

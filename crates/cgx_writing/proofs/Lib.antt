@@ -13,4 +13,6 @@ pub mod Rooms
 pub mod Calling
 pub mod Specimens
 pub mod Promises
+-- `Polys`, `Srefs`: the sizes of these two.
 pub mod Polys
+pub mod Srefs

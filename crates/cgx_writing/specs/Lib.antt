@@ -4,3 +4,5 @@ pub mod Given
 pub mod Typed
 pub mod Writing
 pub mod Specimens
+-- `Srefs`: an SREF as the code computes it.
+pub mod Srefs

@@ -1,6 +1,9 @@
 // What a call of the writer is given, and what it answers: the types that the definitions in specs/ and the writer's code share.
 ghost use mathlib.Core.Path.{_≡_};
+ghost use Prim.Native.Nat.{_≤_};
+ghost use lib.ListN.{length};
 ghost use Rattle.cgx_writing.specs.Given.{dateBytes, styleOf};
+ghost use Rattle.cgx_writing.specs.Srefs.{widthIf, srefSize};
 use cgx_kinds::Date;
 use cgx_kinds::Point;
 use cgx_numbers::WordBytes;
@@ -73,4 +76,23 @@ pub enum Answer {
         at: Offset,
         place: Place,
     },
+}
+
+// ---- sizes
+
+// The size of an SREF with these flags and this name.
+pub fn sref_size(flags: u8, name: &[u8]) -> usize
+    ensures { λ r. ⌜ r ≡ srefSize flags (length (now (name .entry))) ⌝ }
+{
+    let angle = width_if(flags % 2 == 1, 8);
+    let magnif = width_if(flags / 2 % 2 == 1, 8);
+    let array = width_if(flags / 8 % 2 == 1, 24);
+    12 + angle + magnif + array + (2 + name.len() / 2 * 2)
+}
+
+// The bytes of a field that stands only where its flag is set.
+fn width_if(stands: bool, width: usize) -> usize
+    ensures { λ r. ⌜ (r ≡ widthIf stands width) × (r ≤ width) ⌝ }
+{
+    if stands { width } else { 0 }
 }

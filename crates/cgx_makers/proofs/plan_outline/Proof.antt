@@ -1,12 +1,11 @@
 -- The plan of each record in turn, at the place behind the one before; the first that is refused is answered.
-use mathlib.Core.Path.{sym, ap, _∙_}
+use mathlib.Core.Path.{_∙_}
 use mathlib.Core.List.{[], _∷_}
 use Prim.Native.Nat.{_+_, _*_}
 use native.Mathlib.Omega.{arith}
 use lib.IntN.{pos}
 use lib.ListN.{length}
 use Rattle.cgx_writing.specs.declared.EndStyle.the-variants.{Unstated}
-use Rattle.cgx_writing.specs.declared.Answer.the-variants.{Taken}
 use Rattle.cgx_writing.specs.Given.{givenLayer, givenWire}
 use Rattle.cgx_writing.proofs.Sizes.{layer-size, wire-size}
 use Rattle.cgx_plans.proofs.Order.{call-fits}

@@ -1,10 +1,10 @@
 -- The two records' plan is that of the card; where it is good, so are the stores.
-use mathlib.Core.Path.{_≡_, sym, ap, _∙_}
+use mathlib.Core.Path.{sym, ap, _∙_}
 use mathlib.Core.List.{List}
 use native.Mathlib.Omega.{arith}
 use lib.IntN.{ℤ}
 use lib.ListN.{length}
-use Rattle.cgx_makers.specs.Makers.{corners, outline, cardCalls}
+use Rattle.cgx_makers.specs.Makers.{outline, cardCalls}
 use Rattle.cgx_makers.specs.Planned.{allPlanned, allStored}
 use Rattle.cgx_makers.proofs.Turns.{all-taken, all-refused}
 use Rattle.cgx_makers.proofs.Outline.{corners-held, outline-fits}
