@@ -13,10 +13,11 @@ use cgx_plain::fields::PlainEight;
 use cgx_plain::places::PlainPlace;
 use cgx_plain::places::place_from;
 use cgx_writing::EndStyle;
+use cgx_writing::Grid;
 ghost use mathlib.Core.Path.{_≡_};
 ghost use mathlib.Core.Option.{none, some};
 ghost use Rattle.cgx_plain.specs.Plain.{placeFrom, begunFrom, answerFrom};
-ghost use Rattle.cgx_writing.specs.Given.{givenLibrary, givenStruct, givenCprpty, givenProperty, givenLayer, givenBox, givenPoly, givenWire, givenText, givenEndlib};
+ghost use Rattle.cgx_writing.specs.Given.{givenLibrary, givenStruct, givenCprpty, givenProperty, givenLayer, givenBox, givenPoly, givenWire, givenText, givenSref, givenEndlib};
 ghost use Rattle.cgx_writing.specs.Writing.{startIn, callIn};
 ghost use Rattle.cgx_makers.specs.Makers.{cardCalls, frameCalls, allIn};
 
@@ -175,6 +176,33 @@ pub extern "C" fn cgx_write_text(
     ensures { λ r. ⌜ record { answer = answerFrom r; buffer = now (buf .exit) } ≡ callIn (now (buf .entry)) (placeFrom place) (givenText flags at width (now (label .entry))) ⌝ }
 {
     plain_answer(cgx_writer::text(buf, place_from(place), flags, at, width, label))
+}
+
+#[no_mangle]
+pub extern "C" fn cgx_write_sref(
+    buf: &mut [u8],
+    place: PlainPlace,
+    flags: u8,
+    at: Point,
+    angle: PlainEight,
+    magnif: PlainEight,
+    grid: Grid,
+    name: &[u8],
+) -> PlainAnswer
+    ensures { λ r. ⌜ record { answer = answerFrom r; buffer = now (buf .exit) } ≡ callIn (now (buf .entry)) (placeFrom place) (givenSref flags at (angle .bytes) (magnif .bytes) grid (now (name .entry))) ⌝ }
+{
+    let angle_bytes = angle.bytes;
+    let magnif_bytes = magnif.bytes;
+    plain_answer(cgx_writer::sref(
+        buf,
+        place_from(place),
+        flags,
+        at,
+        angle_bytes,
+        magnif_bytes,
+        grid,
+        name,
+    ))
 }
 
 #[no_mangle]
