@@ -5,7 +5,7 @@ use Rattle.cgx_spec.specs.declared.Place.{Place}
 use Rattle.cgx_walk.specs.declared.Outcome.{Outcome}
 use Rattle.cgx_walk.specs.declared.Outcome.the-variants.{Record, Done, Refused}
 use Rattle.cgx_walk.specs.Walk.{StepMade, Stands}
-use Rattle.cgx_plain.specs.Plain.{OfItsKind}
+use Rattle.cgx_answers.specs.Answers.{OfItsKind}
 
 go : (f : List ℕ) (o : Outcome) → Stands f o → OfItsKind o
 go f (Record v p) s = s .0

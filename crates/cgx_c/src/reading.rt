@@ -1,4 +1,20 @@
 // The checker, the walk, the normal-form maker, layer names and extents.
+use cgx_answers::PlainBox;
+use cgx_answers::PlainExtent;
+use cgx_answers::PlainMade;
+use cgx_answers::PlainPoint;
+use cgx_answers::PlainShown;
+use cgx_answers::PlainStart;
+use cgx_answers::PlainStep;
+use cgx_answers::PlainVerdict;
+use cgx_answers::plain_box;
+use cgx_answers::plain_extent;
+use cgx_answers::plain_made;
+use cgx_answers::plain_point;
+use cgx_answers::plain_shown;
+use cgx_answers::plain_started;
+use cgx_answers::plain_step;
+use cgx_answers::plain_verdict;
 use cgx_check::check;
 use cgx_extent::extent;
 use cgx_kinds::Repeat;
@@ -9,22 +25,6 @@ use cgx_lists::box_at;
 use cgx_lists::point_at;
 use cgx_lists::text_inside;
 use cgx_normal::normal_form;
-use cgx_plain::answers::PlainBox;
-use cgx_plain::answers::PlainExtent;
-use cgx_plain::answers::PlainMade;
-use cgx_plain::answers::PlainPoint;
-use cgx_plain::answers::PlainShown;
-use cgx_plain::answers::PlainStart;
-use cgx_plain::answers::PlainStep;
-use cgx_plain::answers::PlainVerdict;
-use cgx_plain::answers::plain_box;
-use cgx_plain::answers::plain_extent;
-use cgx_plain::answers::plain_made;
-use cgx_plain::answers::plain_point;
-use cgx_plain::answers::plain_shown;
-use cgx_plain::answers::plain_started;
-use cgx_plain::answers::plain_step;
-use cgx_plain::answers::plain_verdict;
 use cgx_plain::places::PlainPlace;
 use cgx_plain::places::place_from;
 use cgx_walk::start;
@@ -37,7 +37,8 @@ ghost use Rattle.cgx_lists.specs.Lists.{boxOf, pointOf, within};
 ghost use Rattle.cgx_normal.specs.Made.{madeOf, leftIn};
 ghost use Rattle.cgx_layers.specs.Layers.{layerAnswer, shownOf, ShownIn};
 ghost use Rattle.cgx_extent.specs.Extent.{extentOf};
-ghost use Rattle.cgx_plain.specs.Plain.{verdictFrom, startedFrom, outcomeFrom, placeFrom, boxFrom, pointFrom, madeFrom, shownFrom, extentFrom};
+ghost use Rattle.cgx_plain.specs.Plain.{placeFrom};
+ghost use Rattle.cgx_answers.specs.Answers.{verdictFrom, startedFrom, outcomeFrom, boxFrom, pointFrom, madeFrom, shownFrom, extentFrom};
 
 #[no_mangle]
 pub extern "C" fn cgx_check(file: &[u8]) -> PlainVerdict

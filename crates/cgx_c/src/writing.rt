@@ -1,14 +1,14 @@
 // The writer and the makers. An answer has the place after what was appended, or the old place.
+use cgx_answers::PlainAnswer;
+use cgx_answers::PlainStart;
+use cgx_answers::plain_answer;
+use cgx_answers::plain_begun;
 use cgx_kinds::DataType;
 use cgx_kinds::Date;
 use cgx_kinds::LayerNo;
 use cgx_kinds::Point;
 use cgx_makers::caption_frame;
 use cgx_makers::test_card;
-use cgx_plain::answers::PlainAnswer;
-use cgx_plain::answers::PlainStart;
-use cgx_plain::answers::plain_answer;
-use cgx_plain::answers::plain_begun;
 use cgx_plain::fields::PlainEight;
 use cgx_plain::places::PlainPlace;
 use cgx_plain::places::place_from;
@@ -16,7 +16,8 @@ use cgx_writing::EndStyle;
 use cgx_writing::Grid;
 ghost use mathlib.Core.Path.{_≡_};
 ghost use mathlib.Core.Option.{none, some};
-ghost use Rattle.cgx_plain.specs.Plain.{placeFrom, begunFrom, answerFrom};
+ghost use Rattle.cgx_plain.specs.Plain.{placeFrom};
+ghost use Rattle.cgx_answers.specs.Answers.{begunFrom, answerFrom};
 ghost use Rattle.cgx_writing.specs.Given.{givenLibrary, givenStruct, givenCprpty, givenProperty, givenLayer, givenBox, givenPoly, givenWire, givenText, givenSref, givenEndlib};
 ghost use Rattle.cgx_writing.specs.Writing.{startIn, callIn};
 ghost use Rattle.cgx_makers.specs.Makers.{cardCalls, frameCalls, allIn};

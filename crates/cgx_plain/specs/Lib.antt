@@ -1,2 +1,2 @@
--- What plain structs stand for.
+-- What plain places and views stand for.
 pub mod Plain

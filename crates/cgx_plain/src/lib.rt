@@ -1,5 +1,4 @@
-// Places, views and answers as C has them: structs of plain numbers, since an enum cannot pass a C call. specs/Plain.antt says what each of
+// Places and views as C has them: structs of plain numbers, since an enum cannot pass a C call. specs/Plain.antt says what each of
 // them stands for; each function here makes one that stands for what it is given.
-pub mod answers;
 pub mod fields;
 pub mod places;

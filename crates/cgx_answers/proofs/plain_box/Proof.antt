@@ -4,8 +4,8 @@ use mir.Syntax.{w32}
 use Rattle.cgx_numbers.proofs.Signed.{back}
 use Rattle.cgx_lists.specs.declared.BoxAt.the-variants.{Found}
 use borrow.Author.Needs.{needs}
-use Rattle.cgx_plain.proofs.answers.plain_box.Statement.{statement}
-use Rattle.cgx_plain.proofs.answers.plain_box.Tie as tie
+use Rattle.cgx_answers.proofs.plain_box.Statement.{statement}
+use Rattle.cgx_answers.proofs.plain_box.Tie as tie
 
 enum-told : tie.Need-enum-told
 enum-told c = search needs

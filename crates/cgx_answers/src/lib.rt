@@ -1,12 +1,4 @@
-// What the reader and the writer answer.
-use crate::fields::PlainView;
-use crate::fields::no_view;
-use crate::fields::plain_view;
-use crate::places::PlainOffset;
-use crate::places::PlainPlace;
-use crate::places::no_place;
-use crate::places::plain_offset;
-use crate::places::plain_place;
+// Answers of the reader and the writer as C has them: structs of plain numbers with a status. specs/Answers.antt says what each of them stands for.
 use cgx_extent::CellExtent;
 use cgx_extent::Rectangle;
 use cgx_extent::Sides;
@@ -15,6 +7,14 @@ use cgx_layers::Shown;
 use cgx_lists::BoxAt;
 use cgx_lists::PointAt;
 use cgx_normal::Made;
+use cgx_plain::fields::PlainView;
+use cgx_plain::fields::no_view;
+use cgx_plain::fields::plain_view;
+use cgx_plain::places::PlainOffset;
+use cgx_plain::places::PlainPlace;
+use cgx_plain::places::no_place;
+use cgx_plain::places::plain_offset;
+use cgx_plain::places::plain_place;
 use cgx_spec::Offset;
 use cgx_spec::Verdict;
 use cgx_walk::Outcome;
@@ -22,7 +22,7 @@ use cgx_walk::Started as WalkStarted;
 use cgx_writing::Answer;
 use cgx_writing::Started;
 ghost use mathlib.Core.Path.{_≡_};
-ghost use Rattle.cgx_plain.specs.Plain.{verdictFrom, startedFrom, outcomeFrom, OfItsKind, boxFrom, pointFrom, madeFrom, shownFrom, extentFrom, begunFrom, answerFrom};
+ghost use Rattle.cgx_answers.specs.Answers.{verdictFrom, startedFrom, outcomeFrom, OfItsKind, boxFrom, pointFrom, madeFrom, shownFrom, extentFrom, begunFrom, answerFrom};
 
 #[repr(C)]
 pub struct PlainVerdict {

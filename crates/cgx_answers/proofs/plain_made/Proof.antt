@@ -3,8 +3,8 @@ use mathlib.Core.Path.{sym, ap, _∙_}
 use Rattle.cgx_spec.specs.declared.Offset.{Offset}
 use Rattle.cgx_normal.specs.declared.Made.the-variants.{Refused}
 use borrow.Author.Needs.{needs}
-use Rattle.cgx_plain.proofs.answers.plain_made.Statement.{statement}
-use Rattle.cgx_plain.proofs.answers.plain_made.Tie as tie
+use Rattle.cgx_answers.proofs.plain_made.Statement.{statement}
+use Rattle.cgx_answers.proofs.plain_made.Tie as tie
 
 enum-known-m : tie.Need-enum-known-m
 enum-known-m c = search needs

@@ -1,8 +1,8 @@
 -- By cases.
 use mathlib.Core.Path.{sym}
 use borrow.Author.Needs.{needs}
-use Rattle.cgx_plain.proofs.answers.plain_point.Statement.{statement}
-use Rattle.cgx_plain.proofs.answers.plain_point.Tie as tie
+use Rattle.cgx_answers.proofs.plain_point.Statement.{statement}
+use Rattle.cgx_answers.proofs.plain_point.Tie as tie
 
 enum-told : tie.Need-enum-told
 enum-told c = search needs

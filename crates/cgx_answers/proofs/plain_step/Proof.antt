@@ -3,10 +3,10 @@ use mathlib.Core.Path.{sym, ap₂, _∙_, subst}
 use Rattle.cgx_spec.specs.declared.Offset.{Offset}
 use Rattle.cgx_spec.specs.declared.Place.{Place}
 use Rattle.cgx_walk.specs.declared.Outcome.the-variants.{Record, Refused}
-use Rattle.cgx_plain.specs.Plain.{OfItsKind}
+use Rattle.cgx_answers.specs.Answers.{OfItsKind}
 use borrow.Author.Needs.{needs}
-use Rattle.cgx_plain.proofs.answers.plain_step.Statement.{statement}
-use Rattle.cgx_plain.proofs.answers.plain_step.Tie as tie
+use Rattle.cgx_answers.proofs.plain_step.Statement.{statement}
+use Rattle.cgx_answers.proofs.plain_step.Tie as tie
 
 enum-known-o : tie.Need-enum-known-o
 enum-known-o c = search needs

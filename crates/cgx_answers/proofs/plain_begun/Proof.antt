@@ -1,9 +1,10 @@
 -- By cases.
 use mathlib.Core.Path.{sym, ap, _∙_}
-use Rattle.cgx_walk.specs.declared.Started.the-variants.{Ready}
+use Rattle.cgx_spec.specs.declared.Offset.{Offset}
+use Rattle.cgx_writing.specs.declared.Started.the-variants.{Ready, Refused}
 use borrow.Author.Needs.{needs}
-use Rattle.cgx_plain.proofs.answers.plain_started.Statement.{statement}
-use Rattle.cgx_plain.proofs.answers.plain_started.Tie as tie
+use Rattle.cgx_answers.proofs.plain_begun.Statement.{statement}
+use Rattle.cgx_answers.proofs.plain_begun.Tie as tie
 
 enum-known-s : tie.Need-enum-known-s
 enum-known-s c = search needs
@@ -17,6 +18,9 @@ plain-place-requires c κs = search needs
 enum-known-s-2 : tie.Need-enum-known-s-2
 enum-known-s-2 c = search needs
 
+plain-offset-requires-2 : tie.Need-plain-offset-requires-2
+plain-offset-requires-2 c κs = search needs
+
 no-place-requires : tie.Need-no-place-requires
 no-place-requires c κs = search needs
 
@@ -24,16 +28,17 @@ returns : tie.Need-returns
 returns c = ap Ready (c .plain-place .ensures) ∙ sym (c .before .before .before .s .given .1)
 
 returns-2 : tie.Need-returns-2
-returns-2 c = sym (c .before .before .s2 .given .1)
+returns-2 c = ap (λ (o : Offset). Refused (c .before .before .before .s2 .given .0 .0) o) (c .before .plain-offset2 .ensures) ∙ sym (c .before .before .before .s2 .given .1)
 
-pub plain-started-spec : {M : Type 1} → statement M
-plain-started-spec =
+pub plain-begun-spec : {M : Type 1} → statement M
+plain-begun-spec =
     tie.close
     (tie.spec
     enum-known-s
     plain-offset-requires
     plain-place-requires
     enum-known-s-2
+    plain-offset-requires-2
     no-place-requires
     returns
     returns-2)

@@ -1,8 +1,8 @@
 -- By cases.
 use mathlib.Core.Path.{sym}
 use borrow.Author.Needs.{needs}
-use Rattle.cgx_plain.proofs.answers.plain_shown.Statement.{statement}
-use Rattle.cgx_plain.proofs.answers.plain_shown.Tie as tie
+use Rattle.cgx_answers.proofs.plain_shown.Statement.{statement}
+use Rattle.cgx_answers.proofs.plain_shown.Tie as tie
 
 enum-known-s : tie.Need-enum-known-s
 enum-known-s c = search needs

@@ -4,8 +4,8 @@ use Rattle.cgx_spec.specs.declared.Offset.{Offset}
 use Rattle.cgx_spec.specs.declared.Place.{Place}
 use Rattle.cgx_writing.specs.declared.Answer.the-variants.{Taken, Refused}
 use borrow.Author.Needs.{needs}
-use Rattle.cgx_plain.proofs.answers.plain_answer.Statement.{statement}
-use Rattle.cgx_plain.proofs.answers.plain_answer.Tie as tie
+use Rattle.cgx_answers.proofs.plain_answer.Statement.{statement}
+use Rattle.cgx_answers.proofs.plain_answer.Tie as tie
 
 enum-known-a : tie.Need-enum-known-a
 enum-known-a c = search needs

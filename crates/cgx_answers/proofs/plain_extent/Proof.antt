@@ -3,8 +3,8 @@ use mathlib.Core.Path.{sym, ap, _∙_}
 use Rattle.cgx_spec.specs.declared.Offset.{Offset}
 use Rattle.cgx_extent.specs.declared.CellExtent.the-variants.{Refused, Found}
 use borrow.Author.Needs.{needs}
-use Rattle.cgx_plain.proofs.answers.plain_extent.Statement.{statement}
-use Rattle.cgx_plain.proofs.answers.plain_extent.Tie as tie
+use Rattle.cgx_answers.proofs.plain_extent.Statement.{statement}
+use Rattle.cgx_answers.proofs.plain_extent.Tie as tie
 
 enum-known-e : tie.Need-enum-known-e
 enum-known-e c = search needs

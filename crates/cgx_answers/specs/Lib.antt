@@ -1,0 +1,2 @@
+-- What plain answers stand for.
+pub mod Answers
