@@ -59,9 +59,10 @@ pub fn caption_frame(
     if fault != 0 {
         return refusal_at(fault, at, place);
     }
+    let next = place_after(behind, Kind::Text, 18 + label.len() / 2 * 2);
     store_outline(buf, place, &corners);
     store_text(buf, at, 0, left, bottom, WIDTH, label);
-    Answer::Taken(place_after(behind, Kind::Text, 18 + label.len() / 2 * 2))
+    Answer::Taken(next)
 }
 
 // The width of the wire and of the caption.

@@ -254,7 +254,7 @@ fn box_fault(sides: &[i32]) -> u8
     if boxes_good(sides) { 0 } else { 10 }
 }
 
-// No early exit stands in the loop, so that it is compiled to a vector loop.
+// No branch stands in the loop, so that several boxes can be taken at a time.
 fn boxes_good(sides: &[i32]) -> bool
     requires { ⌜ length (now sides) % 4 ≡ 0 ⌝ }
     ensures { λ r. ⌜ r ≡ inOrder (now (sides .entry)) ⌝ }

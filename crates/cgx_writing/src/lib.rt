@@ -1,4 +1,5 @@
-// What a call of the writer is given, and what it answers: the types that the definitions in specs/ and the writer's code share.
+// What a call of the writer is given, and what it answers: the types that the definitions in specs/ and the writer's code share. And what plans and stores share: a
+// date's bytes, and the size of an SREF.
 ghost use mathlib.Core.Path.{_≡_};
 ghost use Prim.Native.Nat.{_≤_};
 ghost use lib.ListN.{length};

@@ -74,12 +74,29 @@ returns-2 c =
     let r = plan-stops (length (a .buf .now)) (a .place) q g [] n (c .refusal-at .result) (w .plan-text .ensures (a .left) (a .bottom) (pos 2)) (c .before .if1 .taken) (c .refusal-at .ensures) in
     all-refused (a .buf .now) (a .place) (a .place) (frameCalls (a .left) (a .bottom) (a .right) (a .top) (a .label .now)) (c .refusal-at .result) (r ∙ sym m) n (named n (q .at)) (c .refusal-at .ensures)
 
+mul-place-after : tie.Need-mul-place-after
+mul-place-after c = search needs
+
+add-place-after : tie.Need-add-place-after
+add-place-after c = search needs
+
+place-after-requires : tie.Need-place-after-requires
+place-after-requires c κs =
+    let k = c .before .before .before in
+    let f = k .before .before in
+    let s = f .before .before in
+    let v = s .before .before .before in
+    let a = v .args in
+    let t = c .before in
+    let h = call-fits (length (a .buf .now)) (k .planned .given .0 .0) (givenText 0 (record { x = a .left; y = a .bottom }) (pos 2) (a .label .now)) (t .plan-text .result) (18 + length (a .label .now) / 2 * 2) (t .plan-text .ensures (a .left) (a .bottom) (pos 2)) (c .if1 .left) (label-size 0 (record { x = a .left; y = a .bottom }) (pos 2) (a .label .now)) in
+    (omega (arith, h .room), omega (arith, h .few, h .room))
+
 slice-aggregate-store-outline : tie.Need-slice-aggregate-store-outline
 slice-aggregate-store-outline c = search needs
 
 store-outline-requires : tie.Need-store-outline-requires
 store-outline-requires c κs =
-    let k = c .before .before .before .before .before in
+    let k = c .before .before .before .before .before .before in
     let f = k .before .before in
     let s = f .before .before in
     let v = s .before .before .before in
@@ -90,7 +107,7 @@ store-outline-requires c κs =
 store-text-requires : tie.Need-store-text-requires
 store-text-requires c κs =
     let o = c .before .before .before in
-    let i = o .before .before .before in
+    let i = o .before .before .before .before in
     let k = i .before .before .before in
     let f = k .before .before in
     let s = f .before .before in
@@ -101,51 +118,16 @@ store-text-requires c κs =
     let l = ap length (o .store-outline .ensures) ∙ stored-length _ (a .place) (a .buf .now) in
     omega (arith, h .small, h .room, l)
 
-mul-place-after : tie.Need-mul-place-after
-mul-place-after c =
-    let i = c .before .before .before .before .before .before .before .before .before in
-    let k = i .before .before .before in
-    let f = k .before .before in
-    let s = f .before .before in
-    let v = s .before .before .before in
-    let a = v .args in
-    let t = i .before in
-    let h = call-fits (length (a .buf .now)) (k .planned .given .0 .0) (givenText 0 (record { x = a .left; y = a .bottom }) (pos 2) (a .label .now)) (t .plan-text .result) (18 + length (a .label .now) / 2 * 2) (t .plan-text .ensures (a .left) (a .bottom) (pos 2)) (i .if1 .left) (label-size 0 (record { x = a .left; y = a .bottom }) (pos 2) (a .label .now)) in
-    omega (arith, h .small)
-
-add-place-after : tie.Need-add-place-after
-add-place-after c =
-    let i = c .before .before .before .before .before .before .before .before .before in
-    let k = i .before .before .before in
-    let f = k .before .before in
-    let s = f .before .before in
-    let v = s .before .before .before in
-    let a = v .args in
-    let t = i .before in
-    let h = call-fits (length (a .buf .now)) (k .planned .given .0 .0) (givenText 0 (record { x = a .left; y = a .bottom }) (pos 2) (a .label .now)) (t .plan-text .result) (18 + length (a .label .now) / 2 * 2) (t .plan-text .ensures (a .left) (a .bottom) (pos 2)) (i .if1 .left) (label-size 0 (record { x = a .left; y = a .bottom }) (pos 2) (a .label .now)) in
-    omega (arith, h .small)
-
-place-after-requires : tie.Need-place-after-requires
-place-after-requires c κs =
-    let i = c .before .before .before .before .before .before .before .before .before in
-    let k = i .before .before .before in
-    let f = k .before .before in
-    let s = f .before .before in
-    let v = s .before .before .before in
-    let a = v .args in
-    let t = i .before in
-    let h = call-fits (length (a .buf .now)) (k .planned .given .0 .0) (givenText 0 (record { x = a .left; y = a .bottom }) (pos 2) (a .label .now)) (t .plan-text .result) (18 + length (a .label .now) / 2 * 2) (t .plan-text .ensures (a .left) (a .bottom) (pos 2)) (i .if1 .left) (label-size 0 (record { x = a .left; y = a .bottom }) (pos 2) (a .label .now)) in
-    (omega (arith, h .room), omega (arith, h .few, h .room))
-
 same-length : tie.Need-same-length
 same-length c = search needs
 
 returns-3 : tie.Need-returns-3
 unfolding allPlanned allStored givenText
 returns-3 c =
-    let x = c .before .before .before in
+    let x = c .before .before in
     let o = x .before .before .before .before in
-    let i = o .before .before .before in
+    let n = o .before .before .before in
+    let i = n .before in
     let t = i .before in
     let k = t .before .before in
     let f = k .before .before in
@@ -159,14 +141,14 @@ returns-3 c =
     let z = e ∙ k .planned .given .1 in
     let m = plan-more (length (a .buf .now)) (a .place) q (g ∷ []) (outline (corners (a .left) (a .bottom) (a .right) (a .top))) (a .place) z in
     let r =
-    plan-goes (length (a .buf .now)) (a .place) q g [] (t .plan-text .result) (18 + length (a .label .now) / 2 * 2) (c .place-after .result) (t .plan-text .ensures (a .left) (a .bottom) (pos 2)) (i .if1 .left) (label-size 0 (record { x = a .left; y = a .bottom }) (pos 2) (a .label .now)) (c .place-after .ensures) in
+    plan-goes (length (a .buf .now)) (a .place) q g [] (t .plan-text .result) (18 + length (a .label .now) / 2 * 2) (n .place-after .result) (t .plan-text .ensures (a .left) (a .bottom) (pos 2)) (i .if1 .left) (label-size 0 (record { x = a .left; y = a .bottom }) (pos 2) (a .label .now)) (n .place-after .ensures) in
     let b = o .store-outline .last .0 in
     let y = x .store-text .ensures
     ∙ ap (λ (z : ℤ). put b (q .at) (bytesOf (written (givenText 0 (record { x = z; y = toZ w32 (ofZ w32 (a .bottom)) }) (pos 2) (a .label .now))))) (toZ-ofZ w32 (a .left) (v .fits .left))
     ∙ ap (λ (z : ℤ). put b (q .at) (bytesOf (written (givenText 0 (record { x = a .left; y = z }) (pos 2) (a .label .now))))) (toZ-ofZ w32 (a .bottom) (v .fits .bottom))
     ∙ ap (λ (l : List ℕ). put l (q .at) (bytesOf (written g))) (o .store-outline .ensures ∙ ap (λ (zs : List ℤ). allStored (a .buf .now) (a .place) (outline zs)) h)
     ∙ sym (stored-more (length (a .buf .now)) (a .place) q (g ∷ []) (outline (corners (a .left) (a .bottom) (a .right) (a .top))) (a .place) (a .buf .now) z) in
-    all-taken (a .buf .now) (a .place) (c .place-after .result) (frameCalls (a .left) (a .bottom) (a .right) (a .top) (a .label .now)) (Taken (c .place-after .result)) (r ∙ sym m) (x .store-text .last .0) refl y
+    all-taken (a .buf .now) (a .place) (n .place-after .result) (frameCalls (a .left) (a .bottom) (a .right) (a .top) (a .label .now)) (Taken (n .place-after .result)) (r ∙ sym m) (x .store-text .last .0) refl y
 
 pub caption-frame-spec : {M : Type 1} → statement M
 caption-frame-spec =
@@ -181,11 +163,11 @@ caption-frame-spec =
     plan-text-requires
     refusal-at-requires
     returns-2
-    slice-aggregate-store-outline
-    store-outline-requires
-    store-text-requires
     mul-place-after
     add-place-after
     place-after-requires
+    slice-aggregate-store-outline
+    store-outline-requires
+    store-text-requires
     same-length
     returns-3)

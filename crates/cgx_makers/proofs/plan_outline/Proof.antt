@@ -6,12 +6,12 @@ use native.Mathlib.Omega.{arith}
 use lib.IntN.{pos}
 use lib.ListN.{length}
 use Rattle.cgx_writing.specs.declared.EndStyle.the-variants.{Unstated}
-use Rattle.cgx_writing.specs.Given.{givenLayer, givenWire}
+use Rattle.cgx_writing.specs.Given.{givenWire}
 use Rattle.cgx_writing.proofs.Sizes.{layer-size, wire-size}
 use Rattle.cgx_plans.proofs.Order.{call-fits}
 use Rattle.cgx_makers.specs.Planned.{allPlanned}
 use Rattle.cgx_makers.proofs.Turns.{plan-stops, plan-goes}
-use Rattle.cgx_makers.proofs.Outline.{card-layer, card-wire}
+use Rattle.cgx_makers.proofs.Outline.{card-layer, card-wire, layer-goes}
 use borrow.Author.Needs.{needs}
 use Rattle.cgx_makers.proofs.plan_outline.Statement.{statement}
 use Rattle.cgx_makers.proofs.plan_outline.Tie as tie
@@ -42,7 +42,6 @@ refusal-at-requires-2 : tie.Need-refusal-at-requires-2
 refusal-at-requires-2 c κs = search needs
 
 returns-2 : tie.Need-returns-2
-unfolding givenLayer
 returns-2 c =
     let w = c .before .before in
     let b = w .before in
@@ -50,7 +49,7 @@ returns-2 c =
     let f = i .before in
     let a = f .before .args in
     plan-stops (a .room) (a .place) (b .place-after .result) (card-wire (a .points .now)) [] (w .plan-wire .result) (c .refusal-at2 .result) (w .plan-wire .ensures (pos 2)) (c .before .if2 .taken) (c .refusal-at2 .ensures)
-    ∙ plan-goes (a .room) (a .place) (a .place) card-layer (card-wire (a .points .now) ∷ []) (f .plan-layer .result) 8 (b .place-after .result) (f .plan-layer .ensures (pos 1) (pos 0)) (i .if1 .left) (layer-size (record { 0 = pos 1 }) (record { 0 = pos 0 })) (b .place-after .ensures)
+    ∙ layer-goes (a .room) (a .place) (a .place) (b .place-after .result) (card-wire (a .points .now) ∷ []) (f .plan-layer .result) (f .plan-layer .ensures (pos 1) (pos 0)) (i .if1 .left) (b .place-after .ensures)
 
 mul-place-after : tie.Need-mul-place-after
 mul-place-after c = search needs
@@ -67,7 +66,7 @@ place-after-requires-2 c κs =
     (omega (arith, h .room), omega (arith, h .few, h .room))
 
 returns-3 : tie.Need-returns-3
-unfolding givenLayer givenWire allPlanned
+unfolding givenWire allPlanned
 returns-3 c =
     let w = c .before .before in
     let b = w .before in
@@ -75,7 +74,7 @@ returns-3 c =
     let f = i .before in
     let a = f .before .args in
     plan-goes (a .room) (a .place) (b .place-after .result) (card-wire (a .points .now)) [] (w .plan-wire .result) (8 + 4 * length (a .points .now)) (c .place-after2 .result) (w .plan-wire .ensures (pos 2)) (c .before .if2 .left) (wire-size Unstated (pos 2) (a .points .now)) (c .place-after2 .ensures)
-    ∙ plan-goes (a .room) (a .place) (a .place) card-layer (card-wire (a .points .now) ∷ []) (f .plan-layer .result) 8 (b .place-after .result) (f .plan-layer .ensures (pos 1) (pos 0)) (i .if1 .left) (layer-size (record { 0 = pos 1 }) (record { 0 = pos 0 })) (b .place-after .ensures)
+    ∙ layer-goes (a .room) (a .place) (a .place) (b .place-after .result) (card-wire (a .points .now) ∷ []) (f .plan-layer .result) (f .plan-layer .ensures (pos 1) (pos 0)) (i .if1 .left) (b .place-after .ensures)
 
 pub plan-outline-spec : {M : Type 1} → statement M
 plan-outline-spec =
