@@ -1,0 +1,62 @@
+# The C library and what uses it.
+#
+#   make          build/libcgx.a and the example programs
+#   make test     the tests in C; the last line is `N passed, M failed`
+#   make samples  the sample drawings and what `labels` prints of them, made anew under examples/
+#   make clean
+#
+# The archive is proved and built by `rt staticlib`, only where a source is newer than it is.
+
+CFLAGS ?= -O2
+LDFLAGS ?= -Wl,--gc-sections
+STRICT := -std=c99 -Wall -Wextra -Werror
+SANITIZE := -g -fsanitize=address,undefined -fno-sanitize-recover=all
+
+ARCHIVE := target/staticlib/libcgx_c.a
+SOURCES := crates.txt $(shell find crates -name '*.rt' -o -name '*.antt')
+EXAMPLES := build/labels build/samples
+TESTS := build/test build/test-sanitized build/labels-sanitized build/freestanding
+TEST_FILES := $(wildcard tests/c/*.c)
+SUITE := $(filter-out tests/c/freestanding.c,$(TEST_FILES))
+
+all: build/libcgx.a $(EXAMPLES)
+
+$(ARCHIVE): $(SOURCES)
+	rt staticlib cgx_c
+	touch $@
+
+build/libcgx.a: $(ARCHIVE)
+	mkdir -p build
+	cp $< $@
+
+build/%: examples/%.c include/cgx.h build/libcgx.a
+	$(CC) $(STRICT) $(CFLAGS) $(CPPFLAGS) -Iinclude $< build/libcgx.a $(LDFLAGS) -o $@
+
+build/labels-sanitized: examples/labels.c include/cgx.h build/libcgx.a
+	$(CC) $(STRICT) $(SANITIZE) $(CPPFLAGS) -Iinclude $< build/libcgx.a -o $@
+
+build/test: $(SUITE) tests/c/test.h include/cgx.h build/libcgx.a
+	$(CC) $(STRICT) $(CFLAGS) $(CPPFLAGS) -Iinclude $(SUITE) build/libcgx.a $(LDFLAGS) -o $@
+
+build/test-sanitized: $(SUITE) tests/c/test.h include/cgx.h build/libcgx.a
+	$(CC) $(STRICT) $(SANITIZE) $(CPPFLAGS) -Iinclude $(SUITE) build/libcgx.a -o $@
+
+# No C library and no start-up code: the archive is all that is linked.
+build/freestanding: tests/c/freestanding.c include/cgx.h build/libcgx.a
+	$(CC) $(STRICT) $(CFLAGS) -ffreestanding -fno-stack-protector -nostdlib -static -Iinclude $< build/libcgx.a $(LDFLAGS) -o $@
+
+test: all $(TESTS)
+	bash tests/c/run
+
+samples: $(EXAMPLES)
+	mkdir -p examples/drawings
+	build/samples examples/drawings
+	for drawing in examples/drawings/*.cgx; do \
+	    build/labels $$drawing > examples/$$(basename $$drawing .cgx).expected 2>&1; \
+	done; true
+
+clean:
+	rm -rf build
+
+.PHONY: all test samples clean
+.DELETE_ON_ERROR:
