@@ -1,0 +1,454 @@
+/* The checker, the walk, lists, texts, layer names and extents. */
+#include "test.h"
+
+#include <string.h>
+
+/* ---- refusals: each reader gives the same number at the same offset */
+
+typedef struct {
+    const char *name;
+    const char *digits;
+    uint8_t number;
+    size_t at;
+} refused_file;
+
+#define CELL CGX LIBRARY_M STRUCT_A /* 64 bytes */
+#define LAYERED CELL LAYER_1        /* 72 bytes */
+#define REALS "3e4189374bc6a7f0 3944b82fa09b5a54 "
+#define DATE "07e9 02 06 0e 09 2d 00 "
+#define STRUCT_DATED(date) CGX LIBRARY_M "0016 01 00 " date DATE "6100" ENDLIB
+#define STRUCT_NAMED(size, name) CGX LIBRARY_M size " 01 00 " DATES name ENDLIB
+
+static const refused_file refused_files[] = {
+    {"empty", "", 1, 0},
+    {"three bytes", "636778", 1, 0},
+    {"not cgx", "63677a00" LIBRARY_M ENDLIB, 1, 0},
+    {"level 1", "63677801", 2, 0},
+    {"header alone", CGX, 3, 4},
+    {"no ENDLIB", LAYERED BOX_1, 3, 92},
+    {"ends after a PROPERTY", LAYERED "000a 03 00 00000001 6100", 3, 82},
+    {"one byte left", CGX LIBRARY_M "00", 4, 42},
+    {"three bytes left", CGX LIBRARY_M "000401", 4, 42},
+    {"past the end", CGX LIBRARY_M "0006 0a 00", 4, 42},
+    {"size odd", CGX "0005 00 00", 5, 4},
+    {"size 2", CGX "0002 00 00", 5, 4},
+    {"size 0", CGX LIBRARY_M "0000 0a 00", 5, 42},
+    {"size odd and past the end", CGX LIBRARY_M "ffff 0a 00", 5, 42},
+    {"unknown before LIBRARY", CGX "0004 0b 00", 6, 4},
+    {"STRUCT before LIBRARY", CGX STRUCT_A, 6, 4},
+    {"second LIBRARY", CGX LIBRARY_M LIBRARY_M ENDLIB, 6, 42},
+    {"LAYER without a cell", CGX LIBRARY_M LAYER_1 ENDLIB, 6, 42},
+    {"BOX without a layer", CELL BOX_1 ENDLIB, 6, 64},
+    {"the layer ends with its cell", LAYERED STRUCT_A BOX_1 ENDLIB, 6, 94},
+    {"CPRPTY behind LAYER", LAYERED "000a 02 00 00000001 6100" ENDLIB, 6, 72},
+    {"ENDLIB behind PROPERTY", LAYERED "000a 03 00 00000001 6100" ENDLIB, 6, 82},
+    {"LAYER behind PROPERTY", LAYERED "000a 03 00 00000001 6100" LAYER_1 ENDLIB, 6, 82},
+    {"WIRE flags 3", LAYERED "0010 07 03 00000001 00000001 00000001" ENDLIB, 7, 72},
+    {"SREF flags 16", CELL "000e 09 10 00000001 00000001 6100" ENDLIB, 7, 64},
+    {"BOX without a box", LAYERED "0004 05 00" ENDLIB, 8, 72},
+    {"BOX of half a box", LAYERED "001c 05 00 00000000 00000000 00000000 00000000 00000000 00000000" ENDLIB, 8, 72},
+    {"POLY of three points", LAYERED "001c 06 00 00000000 00000000 00000001 00000001 00000000 00000000" ENDLIB, 8, 72},
+    {"WIRE without a point", LAYERED "0008 07 00 00000001" ENDLIB, 8, 72},
+    {"LIBRARY too short", CGX "0024 00 00 " REALS DATES ENDLIB, 8, 4},
+    {"ENDLIB too long", CGX LIBRARY_M "0006 0a 00 0000", 8, 42},
+    {"month 0", STRUCT_DATED("07e9 00 06 0e 09 2d 00"), 9, 42},
+    {"month 13", STRUCT_DATED("07e9 0d 06 0e 09 2d 00"), 9, 42},
+    {"day 0", STRUCT_DATED("07e9 02 00 0e 09 2d 00"), 9, 42},
+    {"day 32", STRUCT_DATED("07e9 02 20 0e 09 2d 00"), 9, 42},
+    {"hour 24", STRUCT_DATED("07e9 02 06 18 09 2d 00"), 9, 42},
+    {"minute 60", STRUCT_DATED("07e9 02 06 0e 3c 2d 00"), 9, 42},
+    {"second 60", STRUCT_DATED("07e9 02 06 0e 09 3c 00"), 9, 42},
+    {"a date's last byte", STRUCT_DATED("07e9 02 06 0e 09 2d 01"), 9, 42},
+    {"munit 0", CGX "0026 00 00 8000000000000000 3944b82fa09b5a54 " DATES "6d00" ENDLIB, 10, 4},
+    {"uunit below 0", CGX "0026 00 00 3e4189374bc6a7f0 b944b82fa09b5a54 " DATES "6d00" ENDLIB, 10, 4},
+    {"reversed box", LAYERED "0014 05 00 00000001 00000000 00000000 00000000" ENDLIB, 10, 72},
+    {"magnif 0", CELL "0016 09 02 00000001 00000001 0000000000000000 6100" ENDLIB, 10, 64},
+    {"cols 0", CELL "0026 09 08 00000001 00000001 00000000 00000001 00000000 00000000 00000000 00000000 6100" ENDLIB, 10, 64},
+    {"rows -1", CELL "0026 09 08 00000001 00000001 00000001 ffffffff 00000000 00000000 00000000 00000000 6100" ENDLIB, 10, 64},
+    {"text behind a zero", STRUCT_NAMED("0018", "61000000"), 11, 42},
+    {"no zero at the end", STRUCT_NAMED("0018", "61620063"), 11, 42},
+    {"POLY not closed", LAYERED "0024 06 00 00000000 00000000 00000001 00000000 00000001 00000001 00000000 00000001" ENDLIB, 12, 72},
+    {"a byte after ENDLIB", SMALL "00", 13, 96},
+};
+
+/* Walks a file to its end: the status of the last step, or of a start that is not ready. */
+static cgx_step_answer walked(blob file, size_t *records) {
+    cgx_start_answer begun = cgx_start(file.bytes, file.size);
+    cgx_step_answer step;
+    memset(&step, 0, sizeof step);
+    step.status = CGX_STEP_REFUSED;
+    step.number = begun.number;
+    step.at = begun.at;
+    *records = 0;
+    if (!begun.ready) return step;
+    step.place = begun.place;
+    do {
+        cgx_place old = step.place;
+        step = cgx_step(file.bytes, file.size, old);
+        if (step.status == CGX_STEP_RECORD) ++*records;
+        if (step.status == CGX_STEP_REFUSED && !same_place(old, step.place)) {
+            expect(false, "walk", "a refusal hands back the old place");
+        }
+    } while (step.status == CGX_STEP_RECORD);
+    return step;
+}
+
+static void refuse(const refused_file *r) {
+    blob file = hex(r->digits), out = copy_of("untouched", 9), before = copy_of("untouched", 9);
+    size_t records;
+    cgx_verdict verdict = cgx_check(file.bytes, file.size);
+    cgx_step_answer last = walked(file, &records);
+    cgx_normal_answer normal = cgx_normal_form(file.bytes, file.size, out.bytes, out.size);
+    cgx_extent_answer extent = cgx_extent(file.bytes, file.size, 0);
+    expect(!verdict.accepted && verdict.number == r->number && verdict.at == r->at, r->name, "check");
+    expect(last.status == CGX_STEP_REFUSED && last.number == r->number && last.at.present && last.at.at == r->at,
+        r->name, "walk");
+    expect(!normal.made && normal.number == r->number && normal.at.present && normal.at.at == r->at
+            && same_bytes(out, before), r->name, "normal form");
+    expect(extent.status == CGX_EXTENT_REFUSED && extent.number == r->number && extent.at.present
+            && extent.at.at == r->at, r->name, "extent");
+    drop(before);
+    drop(out);
+    drop(file);
+}
+
+/* ---- accepted files */
+
+typedef struct {
+    const char *name;
+    const char *digits;
+    size_t records;
+} accepted_file;
+
+static const accepted_file accepted_files[] = {
+    {"96 bytes", SMALL, 5},
+    {"no cell", CGX LIBRARY_M ENDLIB, 2},
+    {"name a", STRUCT_NAMED("0016", "6100"), 3},
+    {"name ab", STRUCT_NAMED("0018", "61620000"), 3},
+    {"empty name", STRUCT_NAMED("0016", "0000"), 3},
+    {"second 59", STRUCT_DATED("07e9 02 06 0e 09 3b 00"), 3},
+    {"unknown inside a run", LAYERED "000a 03 00 00000001 6100 0004 ff 00" BOX_1 ENDLIB, 6},
+    {"SREF needs no layer", CELL "000e 09 00 00000001 00000001 6100" ENDLIB, 4},
+    {"every kind", every_kind, 16},
+};
+
+static void accept(const accepted_file *a) {
+    blob file = hex(a->digits);
+    size_t records;
+    cgx_step_answer last = walked(file, &records);
+    expect(cgx_check(file.bytes, file.size).accepted, a->name, "check");
+    expect(last.status == CGX_STEP_DONE && records == a->records, a->name, "walk");
+    drop(file);
+}
+
+/* "BOX size 65,524 taken" */
+static void most_boxes(void) {
+    blob start = hex(LAYERED), end = hex(ENDLIB), file;
+    size_t records, i;
+    file.size = start.size + 65524 + end.size;
+    file.bytes = lend(file.size);
+    memset(file.bytes, 0, file.size);
+    memcpy(file.bytes, start.bytes, start.size);
+    put_short(file.bytes + start.size, 65524);
+    file.bytes[start.size + 2] = CGX_BOX;
+    memcpy(file.bytes + start.size + 65524, end.bytes, end.size);
+    for (i = 0; i < CGX_MAX_BOXES; i++) put_long(file.bytes + start.size + 4 + 16 * i + 8, (int32_t)i);
+    expect(cgx_check(file.bytes, file.size).accepted, "BOX size 65,524", "check");
+    expect(walked(file, &records).status == CGX_STEP_DONE && records == 5, "BOX size 65,524", "walk");
+    drop(file);
+    drop(end);
+    drop(start);
+}
+
+/* ---- views */
+
+typedef struct {
+    uint8_t kind, flags;
+    size_t at, cell, layer, first, count; /* 0 is none */
+} expected_view;
+
+static const expected_view expected_views[] = {
+    {CGX_LIBRARY, 7, 4, 0, 0, 0, 0},
+    {CGX_STRUCT, 0xff, 42, 42, 0, 0, 0},
+    {CGX_CPRPTY, 1, 64, 42, 0, 0, 0},
+    {CGX_LAYER, 2, 76, 42, 76, 0, 0},
+    {CGX_PROPERTY, 3, 88, 42, 76, 0, 0},
+    {CGX_PROPERTY, 0, 104, 42, 76, 0, 0},
+    {CGX_BOX, 0x55, 114, 42, 76, 88, 2},
+    {CGX_POLY, 0, 150, 42, 76, 0, 0},
+    {CGX_WIRE, 2, 186, 42, 76, 0, 0},
+    {CGX_TEXT, 0xf5, 210, 42, 76, 0, 0},
+    {CGX_SREF, 0, 230, 42, 76, 0, 0},
+    {CGX_SREF, 15, 244, 42, 76, 0, 0},
+    {CGX_STRUCT, 0, 298, 298, 0, 0, 0},
+    {CGX_LAYER, 0, 320, 298, 320, 0, 0},
+    {CGX_LAYER, 0, 328, 298, 328, 0, 0},
+    {CGX_ENDLIB, 0, 338, 298, 328, 0, 0},
+};
+enum { VIEWS = sizeof expected_views / sizeof expected_views[0] };
+
+static bool is_offset(cgx_offset o, size_t at) {
+    return at == 0 ? !o.present : o.present && o.at == at;
+}
+
+static bool is_view(const cgx_view *v, const expected_view *e) {
+    bool run = e->count == 0 ? !v->run.present
+                             : v->run.present && v->run.first == e->first && v->run.count == e->count;
+    return v->kind == e->kind && v->flags == e->flags && v->at == e->at && is_offset(v->cell, e->cell)
+        && is_offset(v->layer, e->layer) && run;
+}
+
+static bool is_text(blob file, cgx_text text, const char *bytes) {
+    const uint8_t *found = cgx_text_bytes(file.bytes, file.size, text);
+    return found != NULL && text.len == strlen(bytes) && memcmp(found, bytes, text.len) == 0;
+}
+
+static bool is_date(cgx_date d, uint8_t second) {
+    return d.year == 2025 && d.month == 2 && d.day == 6 && d.hour == 14 && d.minute == 9 && d.second == second;
+}
+
+static bool is_point(blob file, cgx_list list, size_t i, int32_t x, int32_t y) {
+    cgx_point_answer p = cgx_point_at(file.bytes, file.size, list, i);
+    return p.found && p.point.x == x && p.point.y == y;
+}
+
+static bool is_box(blob file, cgx_list list, size_t i, int32_t left, int32_t bottom, int32_t right, int32_t top) {
+    cgx_box_answer b = cgx_box_at(file.bytes, file.size, list, i);
+    return b.found && b.left == left && b.bottom == bottom && b.right == right && b.top == top;
+}
+
+static void fields(blob file, const cgx_view *v) {
+    const cgx_fields *f = &v->fields;
+    const char *name = "fields";
+    switch (v->at) {
+    case 4:
+        expect(f->munit.present && f->munit.exact && f->munit.value == 0x4189374bc6a7f0p-64, name, "munit");
+        expect(f->uunit.present && !f->uunit.exact && !f->uunit.negative && f->uunit.e == 0x41
+                && f->uunit.m == 0xffffffffffffff, name, "uunit, inexact");
+        expect(is_date(f->created, 45) && is_date(f->modified, 51), name, "dates of LIBRARY");
+        expect(is_text(file, f->text, "m"), name, "name of LIBRARY");
+        break;
+    case 42:
+        expect(is_date(f->created, 45) && is_date(f->modified, 51), name, "dates of STRUCT");
+        expect(is_text(file, f->text, "a"), name, "name of STRUCT");
+        break;
+    case 64: expect(f->number == -1 && is_text(file, f->text, "cp"), name, "CPRPTY"); break;
+    case 76:
+        expect(f->layer.number == 5 && f->datatype.number == -3, name, "numbers of LAYER");
+        expect(f->named && is_text(file, f->text, "m1"), name, "name of LAYER");
+        break;
+    case 88: expect(f->number == 127 && is_text(file, f->text, "p"), name, "PROPERTY"); break;
+    case 104: expect(f->number == INT32_MIN && is_text(file, f->text, ""), name, "lowest number"); break;
+    case 114:
+        expect(f->list.count == 2 && is_box(file, f->list, 0, -80, -57, 82, 58), name, "first box");
+        expect(is_box(file, f->list, 1, 0, 0, 0, 0), name, "second box");
+        expect(!cgx_box_at(file.bytes, file.size, f->list, 2).found, name, "no third box");
+        break;
+    case 150:
+        expect(f->list.count == 4 && is_point(file, f->list, 2, 10, 20), name, "points of POLY");
+        expect(!cgx_point_at(file.bytes, file.size, f->list, 4).found, name, "no fifth point");
+        break;
+    case 186:
+        expect(f->width == 10 && f->list.count == 2, name, "WIRE");
+        expect(is_point(file, f->list, 0, -1, INT32_MIN) && is_point(file, f->list, 1, INT32_MAX, 1), name, "points of WIRE");
+        break;
+    case 210:
+        expect(f->point.x == -80 && f->point.y == INT32_MIN && f->width == 7, name, "TEXT");
+        expect(is_text(file, f->text, "ab\xce"), name, "label cut through a letter");
+        break;
+    case 230:
+        expect(f->point.x == 1 && f->point.y == 2 && is_text(file, f->text, "b"), name, "SREF");
+        expect(!f->angle.present && !f->magnif.present && !f->array.present, name, "fields that do not stand");
+        break;
+    case 244:
+        expect(f->angle.present && f->angle.exact && f->angle.value == 0.0, name, "angle");
+        expect(f->magnif.present && f->magnif.exact && f->magnif.value == 1.0, name, "magnif");
+        expect(f->array.present && f->array.cols == 2 && f->array.rows == 3 && f->array.across.x == 100
+                && f->array.across.y == 0 && f->array.up.x == 0 && f->array.up.y == 200, name, "array");
+        break;
+    case 298: expect(is_text(file, f->text, ""), name, "empty name of STRUCT"); break;
+    case 320: expect(!f->named && f->layer.number == 1 && f->datatype.number == 0, name, "LAYER without a name"); break;
+    case 328: expect(f->named && is_text(file, f->text, ""), name, "LAYER with an empty name"); break;
+    default: break;
+    }
+}
+
+static void views(void) {
+    blob file = hex(every_kind);
+    cgx_place place = cgx_start(file.bytes, file.size).place;
+    size_t i;
+    for (i = 0; i < VIEWS; i++) {
+        cgx_step_answer step = cgx_step(file.bytes, file.size, place);
+        expect(step.status == CGX_STEP_RECORD && is_view(&step.view, &expected_views[i]), "view", "of every kind");
+        if (step.status != CGX_STEP_RECORD) break;
+        fields(file, &step.view);
+        place = step.place;
+    }
+    expect(cgx_step(file.bytes, file.size, place).status == CGX_STEP_DONE, "view", "done");
+    drop(file);
+}
+
+/* 004's second real, as uunit. */
+static void nano(void) {
+    blob file = hex(SMALL);
+    cgx_step_answer step = cgx_step(file.bytes, file.size, cgx_start(file.bytes, file.size).place);
+    expect(step.view.fields.uunit.exact && step.view.fields.uunit.value == 0x44b82fa09b5a54p-84, "real", "39 44 b8 ..");
+    drop(file);
+}
+
+/* ---- forged places: each clause of 16, and what is no forgery */
+
+static void forged_step(blob file, cgx_place place, const char *what) {
+    cgx_step_answer step = cgx_step(file.bytes, file.size, place);
+    expect(step.status == CGX_STEP_REFUSED && step.number == CGX_REFUSED_NO_SUCH && !step.at.present
+            && same_place(step.place, place), "forged place", what);
+}
+
+static void forged(void) {
+    blob file = hex(SMALL), tiny = copy_of("cgx", 3);
+    cgx_place start = cgx_start(file.bytes, file.size).place, p;
+    cgx_step_answer step;
+    p = start, p.at = 0, forged_step(file, p, "offset 0");
+    p = start, p.at = 2, forged_step(file, p, "offset 2");
+    p = start, p.at = 5, forged_step(file, p, "odd");
+    p = start, p.at = 98, forged_step(file, p, "past the end");
+    p = start, p.at = SIZE_MAX - 1, forged_step(file, p, "far past the end");
+    p = start, p.cell.present = true, p.cell.at = 5, forged_step(file, p, "cell above");
+    p = start, p.layer.present = true, p.layer.at = 5, forged_step(file, p, "layer above");
+    p = start, p.run.present = true, p.run.first = 5, p.run.count = 1, forged_step(file, p, "run above");
+    p = start, p.run.present = true, p.run.first = 4, p.run.count = 5, forged_step(file, p, "count above");
+    forged_step(tiny, start, "under 4 bytes");
+
+    p = start, p.at = 92, p.library = true, p.cell.present = p.layer.present = true, p.cell.at = p.layer.at = 92;
+    step = cgx_step(file.bytes, file.size, p);
+    expect(step.status == CGX_STEP_RECORD && step.view.kind == CGX_ENDLIB && step.view.cell.at == 92, "forged place",
+        "equal is no forgery");
+    p.at = 96, p.ended = true;
+    expect(cgx_step(file.bytes, file.size, p).status == CGX_STEP_DONE, "forged place", "the end of the file");
+    drop(tiny);
+    drop(file);
+}
+
+/* ---- lists and texts that are made up */
+
+static void made_up(void) {
+    blob file = hex(SMALL);
+    cgx_list at_end = {80, 9}, behind = {96, 1}, far = {SIZE_MAX, SIZE_MAX};
+    cgx_text whole = {0, 96}, none = {96, 0}, long_one = {1, 96}, beyond = {97, 0}, most = {2, SIZE_MAX};
+    expect(cgx_box_at(file.bytes, file.size, at_end, 0).found, "list", "a box up to the end");
+    expect(!cgx_box_at(file.bytes, file.size, at_end, 1).found, "list", "a box past the end");
+    expect(cgx_point_at(file.bytes, file.size, at_end, 1).found, "list", "a point up to the end");
+    expect(!cgx_point_at(file.bytes, file.size, at_end, 2).found, "list", "a point past the end");
+    expect(!cgx_point_at(file.bytes, file.size, behind, 0).found, "list", "a point behind the end");
+    expect(!cgx_box_at(file.bytes, file.size, far, SIZE_MAX - 1).found, "list", "a box far away");
+    expect(!cgx_point_at(file.bytes, file.size, far, SIZE_MAX / 8).found, "list", "a point far away");
+    expect(cgx_text_inside(file.bytes, file.size, whole), "text", "the whole file");
+    expect(cgx_text_inside(file.bytes, file.size, none), "text", "nothing at the end");
+    expect(!cgx_text_inside(file.bytes, file.size, long_one), "text", "one byte too long");
+    expect(!cgx_text_inside(file.bytes, file.size, beyond), "text", "nothing behind the end");
+    expect(!cgx_text_inside(file.bytes, file.size, most), "text", "a length that does not fit");
+    expect(cgx_text_bytes(file.bytes, file.size, whole) == file.bytes, "text", "its bytes");
+    expect(cgx_text_bytes(file.bytes, file.size, beyond) == NULL, "text", "no bytes");
+    drop(file);
+}
+
+/* ---- layer names */
+
+static void layer(blob file, size_t at, uint8_t good, bool own, size_t from, size_t len) {
+    blob substitute = copy_of("5/-3", 4);
+    cgx_name_answer n = cgx_layer_name(file.bytes, file.size, at, substitute.bytes, substitute.size);
+    expect(cgx_layer_at(file.bytes, file.size, at) == good, "layer", "a good LAYER or 16");
+    expect(n.own == own && n.len == len && (!own || n.at == from), "layer", "name");
+    drop(substitute);
+}
+
+static void layers(void) {
+    blob file = hex(every_kind), cut = copy_of(file.bytes, 87), bad = hex(every_kind);
+    layer(file, 76, 0, true, 84, 2);
+    layer(file, 320, 0, false, 0, 4);
+    layer(file, 328, 0, false, 0, 4);
+    layer(file, 0, 16, false, 0, 0);
+    layer(file, 2, 16, false, 0, 0);
+    layer(file, 77, 16, false, 0, 0);
+    layer(file, 64, 16, false, 0, 0);
+    layer(file, 342, 16, false, 0, 0);
+    layer(file, SIZE_MAX, 16, false, 0, 0);
+    layer(file, SIZE_MAX - 1, 16, false, 0, 0);
+    layer(cut, 76, 16, false, 0, 0);
+    bad.bytes[86] = 'x';
+    layer(bad, 76, 0, true, 84, 3);
+    bad.bytes[85] = 0;
+    layer(bad, 76, 16, false, 0, 0);
+    drop(bad);
+    drop(cut);
+    drop(file);
+}
+
+/* ---- extents */
+
+static void extents(void) {
+    blob file = hex(every_kind), wide = hex(LAYERED BOX_1 "0014 05 00 ffffff00 00000000 00000001 00000001" ENDLIB);
+    cgx_extent_answer first = cgx_extent(file.bytes, file.size, 0), second = cgx_extent(file.bytes, file.size, 1),
+                      third = cgx_extent(file.bytes, file.size, 2), two = cgx_extent(wide.bytes, wide.size, 0);
+    expect(first.status == CGX_EXTENT_FOUND && first.sides.left == -80 && first.sides.bottom == INT32_MIN
+            && first.sides.right == INT32_MAX && first.sides.top == 58, "extent", "boxes, polygon and wire");
+    expect(second.status == CGX_EXTENT_NOTHING, "extent", "nothing");
+    expect(third.status == CGX_EXTENT_REFUSED && third.number == CGX_REFUSED_NO_SUCH && !third.at.present, "extent",
+        "no such cell");
+    expect(two.status == CGX_EXTENT_FOUND && two.sides.left == -256 && two.sides.bottom == -57 && two.sides.right == 82
+            && two.sides.top == 58, "extent", "two boxes");
+    drop(wide);
+    drop(file);
+}
+
+/* ---- many files: checker, walk and normal form agree on each */
+
+static bool agree(blob file, blob out) {
+    size_t records;
+    cgx_verdict v = cgx_check(file.bytes, file.size);
+    cgx_step_answer last = walked(file, &records);
+    cgx_normal_answer n = cgx_normal_form(file.bytes, file.size, out.bytes, out.size);
+    if (v.accepted) return last.status == CGX_STEP_DONE && n.made && n.length <= file.size;
+    return last.status == CGX_STEP_REFUSED && last.number == v.number && last.at.present && last.at.at == v.at && !n.made
+        && n.number == v.number && n.at.present && n.at.at == v.at;
+}
+
+static void cut_and_edited(void) {
+    blob file = hex(every_kind), out;
+    size_t i, n;
+    unsigned value;
+    bool cuts = true, edits = true;
+    out.size = file.size;
+    out.bytes = lend(out.size);
+    for (n = 0; n < file.size; n++) {
+        blob cut = copy_of(file.bytes, n);
+        cuts = cuts && agree(cut, out) && !cgx_check(cut.bytes, cut.size).accepted;
+        drop(cut);
+    }
+    expect(cuts, "every beginning of a file", "is refused, by all alike");
+    for (i = 0; i < file.size; i++) {
+        uint8_t kept = file.bytes[i];
+        for (value = 0; value < 256; value++) {
+            file.bytes[i] = (uint8_t)value;
+            edits = edits && agree(file, out);
+        }
+        file.bytes[i] = kept;
+    }
+    expect(edits, "every file with one byte changed", "is answered by all alike");
+    drop(out);
+    drop(file);
+}
+
+void test_reading(void) {
+    size_t i;
+    for (i = 0; i < sizeof refused_files / sizeof refused_files[0]; i++) refuse(&refused_files[i]);
+    for (i = 0; i < sizeof accepted_files / sizeof accepted_files[0]; i++) accept(&accepted_files[i]);
+    most_boxes();
+    views();
+    nano();
+    forged();
+    made_up();
+    layers();
+    extents();
+    cut_and_edited();
+}
