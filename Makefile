@@ -16,8 +16,8 @@ ARCHIVE := target/staticlib/libcgx_c.a
 SOURCES := crates.txt $(shell find crates -name '*.rt' -o -name '*.antt')
 EXAMPLES := build/labels build/samples
 TESTS := build/test build/test-sanitized build/labels-sanitized build/freestanding
-TEST_FILES := $(wildcard tests/c/*.c)
-SUITE := $(filter-out tests/c/freestanding.c,$(TEST_FILES))
+SUITE := $(filter-out tests/c/freestanding.c,$(wildcard tests/c/*.c))
+SUITE_HEADERS := $(wildcard tests/c/*.h) include/cgx.h
 
 all: build/libcgx.a $(EXAMPLES)
 
@@ -35,10 +35,10 @@ build/%: examples/%.c include/cgx.h build/libcgx.a
 build/labels-sanitized: examples/labels.c include/cgx.h build/libcgx.a
 	$(CC) $(STRICT) $(SANITIZE) $(CPPFLAGS) -Iinclude $< build/libcgx.a -o $@
 
-build/test: $(SUITE) tests/c/test.h include/cgx.h build/libcgx.a
+build/test: $(SUITE) $(SUITE_HEADERS) build/libcgx.a
 	$(CC) $(STRICT) $(CFLAGS) $(CPPFLAGS) -Iinclude $(SUITE) build/libcgx.a $(LDFLAGS) -o $@
 
-build/test-sanitized: $(SUITE) tests/c/test.h include/cgx.h build/libcgx.a
+build/test-sanitized: $(SUITE) $(SUITE_HEADERS) build/libcgx.a
 	$(CC) $(STRICT) $(SANITIZE) $(CPPFLAGS) -Iinclude $(SUITE) build/libcgx.a -o $@
 
 # No C library and no start-up code: the archive is all that is linked.
@@ -52,8 +52,8 @@ samples: $(EXAMPLES)
 	mkdir -p examples/drawings
 	build/samples examples/drawings
 	for drawing in examples/drawings/*.cgx; do \
-	    build/labels $$drawing > examples/$$(basename $$drawing .cgx).expected 2>&1; \
-	done; true
+	    build/labels $$drawing > examples/$$(basename $$drawing .cgx).expected 2>&1 || [ $$? -eq 1 ] || exit 1; \
+	done
 
 clean:
 	rm -rf build

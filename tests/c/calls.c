@@ -28,9 +28,7 @@ cgx_answer make_call(uint8_t *buf, size_t room, cgx_place place, const call *c) 
     case A_STYLED_WIRE: a = cgx_write_styled_wire(buf, room, place, c->flags, c->number, n, c->count); break;
     case A_TEXT: a = cgx_write_text(buf, room, place, c->flags, c->at, c->number, text.bytes, text.size); break;
     case AN_SREF:
-#ifndef CGX_NO_SREF
         a = cgx_write_sref(buf, room, place, c->flags, c->at, c->first, c->second, c->grid, text.bytes, text.size);
-#endif
         break;
     case AN_ENDLIB: a = cgx_write_endlib(buf, room, place); break;
     case A_TEST_CARD: a = cgx_write_test_card(buf, room, place, s->left, s->bottom, s->right, s->top); break;

@@ -74,7 +74,6 @@ static const taken_call taken_calls[] = {
         "0012 08 00 00000000 00000000 00000000 0000"},
     {"TEXT, flags 3f", IN_LAYER, {.which = A_TEXT, .flags = 0x3f, TEXT_OF("\xff")},
         "0012 08 0f 00000000 00000000 00000000 ff00"},
-#ifndef CGX_NO_SREF
     {"SREF", IN_CELL, {.which = AN_SREF, .at = {1, 2}, TEXT_OF("b")}, "000e 09 00 00000001 00000002 6200"},
     {"SREF, its unset fields ignored", IN_RUN,
         {.which = AN_SREF, .flags = CGX_SREF_REFLECT, .at = {1, 2}, .first = ONE, .second = {{0x80}}, GRID(0, -1), TEXT_OF("b")},
@@ -89,7 +88,6 @@ static const taken_call taken_calls[] = {
         {.which = AN_SREF, .flags = 15, .at = {3, 4}, .first = {{0xc2, 1}}, .second = {{0x42, 1}}, GRID(1, 1), TEXT_OF("")},
         "0036 09 0f 00000003 00000004 c110000000000000 4110000000000000 00000001 00000001"
         " 00000064 00000000 00000000 000000c8 0000"},
-#endif
     {"ENDLIB", IN_LIBRARY, {.which = AN_ENDLIB}, ENDLIB},
     {"ENDLIB behind LAYER", IN_LAYER, {.which = AN_ENDLIB}, ENDLIB},
 };
@@ -181,7 +179,6 @@ static const refused_call refused_calls[] = {
     {"TEXT behind ENDLIB", ENDED, {.which = A_TEXT, TEXT_OF("a")}, 6},
     {"TEXT, a zero in its label", IN_LAYER, {.which = A_TEXT, TEXT_OF("a\0")}, 11},
 
-#ifndef CGX_NO_SREF
     {"SREF without a cell", IN_LIBRARY, {.which = AN_SREF}, 6},
     {"SREF behind ENDLIB", ENDED, {.which = AN_SREF}, 6},
     {"SREF flags 16", IN_CELL, {.which = AN_SREF, .flags = 16}, 7},
@@ -192,7 +189,6 @@ static const refused_call refused_calls[] = {
     {"rows 0", IN_CELL, {.which = AN_SREF, .flags = CGX_SREF_ARRAY, GRID(1, 0)}, 10},
     {"rows below 0, before text", IN_CELL, {.which = AN_SREF, .flags = CGX_SREF_ARRAY, GRID(1, INT32_MIN), TEXT_OF("\0")}, 10},
     {"SREF, a zero in its name", IN_CELL, {.which = AN_SREF, TEXT_OF("a\0b")}, 11},
-#endif
 
     {"ENDLIB before LIBRARY", AT_START, {.which = AN_ENDLIB}, 6},
     {"ENDLIB in a run", IN_RUN, {.which = AN_ENDLIB}, 6},
@@ -218,9 +214,7 @@ static const call good_calls[] = {
     {.which = A_WIRE, LONGS_OF(line)},
     {.which = A_STYLED_WIRE, LONGS_OF(line)},
     {.which = A_TEXT},
-#ifndef CGX_NO_SREF
     {.which = AN_SREF},
-#endif
     {.which = AN_ENDLIB},
 };
 
@@ -267,7 +261,8 @@ static void longest_text(const char *name, where at, call c, const char *start_d
 
 static void longest_texts(void) {
     call library = {GOOD_LIBRARY, GOOD_SCALES}, cell = A_STRUCT_ON(NEXT_DAY), cprpty = {.which = A_CPRPTY},
-         property = {.which = A_PROPERTY}, layer = {.which = A_NAMED_LAYER}, text = {.which = A_TEXT};
+         property = {.which = A_PROPERTY}, layer = {.which = A_NAMED_LAYER}, text = {.which = A_TEXT},
+         sref = {.which = AN_SREF}, full_sref = {.which = AN_SREF, .flags = 15, .second = ONE, GRID(1, 1)};
     longest_text("longest LIBRARY", AT_START, library,
         "fffe 00 00 4110000000000000 4110000000000000 " DAY_DIGITS NEXT_DAY_DIGITS);
     longest_text("longest STRUCT", IN_LIBRARY, cell, "fffe 01 00 " NEXT_DAY_DIGITS DAY_DIGITS);
@@ -275,15 +270,10 @@ static void longest_texts(void) {
     longest_text("longest PROPERTY", IN_CELL, property, "fffe 03 00 00000000");
     longest_text("longest LAYER", IN_CELL, layer, "fffe 04 00 0000 0000");
     longest_text("longest TEXT", IN_LAYER, text, "fffe 08 00 00000000 00000000 00000000");
-#ifndef CGX_NO_SREF
-    {
-        call sref = {.which = AN_SREF}, full = {.which = AN_SREF, .flags = 15, .second = ONE, GRID(1, 1)};
-        longest_text("longest SREF", IN_CELL, sref, "fffe 09 00 00000000 00000000");
-        longest_text("longest SREF, all flags", IN_CELL, full,
-            "fffe 09 0f 00000000 00000000 0000000000000000 4110000000000000 00000001 00000001"
-            " 00000064 00000000 00000000 000000c8");
-    }
-#endif
+    longest_text("longest SREF", IN_CELL, sref, "fffe 09 00 00000000 00000000");
+    longest_text("longest SREF, all flags", IN_CELL, full_sref,
+        "fffe 09 0f 00000000 00000000 0000000000000000 4110000000000000 00000001 00000001"
+        " 00000064 00000000 00000000 000000c8");
 }
 
 /* A list of `most` groups is taken, one more is 15, and what 8 to 12 ask comes before. The numbers are 0, 1, 2 .. in each
@@ -357,10 +347,8 @@ static const call drawing[] = {
     {.which = A_POLY, LONGS_OF(triangle)},
     {.which = A_STYLED_WIRE, .flags = 2, .number = 10, LONGS_OF(line)},
     {.which = A_TEXT, .flags = 0xf5, .at = {-80, INT32_MIN}, .number = 7, TEXT_OF("ab\xce")},
-#ifndef CGX_NO_SREF
     {.which = AN_SREF, .at = {1, 2}, TEXT_OF("b")},
     {.which = AN_SREF, .flags = 15, .at = {3, 4}, .first = {{0x80}}, .second = {{0x42, 1}}, GRID(2, 3)},
-#endif
     {.which = A_STRUCT, .created = DAY, .modified = {2025, 2, 6, 14, 9, 51}},
     {.which = A_LAYER, .layer = 1},
     {.which = A_NAMED_LAYER, .layer = 1},
@@ -388,9 +376,7 @@ static void read_back(void) {
         place = a.place;
     }
     file = copy_of(buf.bytes, place.at);
-#ifndef CGX_NO_SREF
     expect(same_bytes(file, normal), "a drawing", "is the bytes that are stored here");
-#endif
     expect(cgx_check(file.bytes, file.size).accepted, "a drawing", "is accepted");
     again.size = file.size;
     again.bytes = lend(again.size);
