@@ -14,7 +14,7 @@ SANITIZE := -g -fsanitize=address,undefined -fno-sanitize-recover=all
 
 ARCHIVE := target/staticlib/libcgx_c.a
 SOURCES := crates.txt $(shell find crates -name '*.rt' -o -name '*.antt')
-EXAMPLES := build/labels build/samples
+EXAMPLES := build/boxes build/labels build/samples
 TESTS := build/test build/test-sanitized build/labels-sanitized build/freestanding
 SUITE := $(filter-out tests/c/freestanding.c,$(wildcard tests/c/*.c))
 SUITE_HEADERS := $(wildcard tests/c/*.h) include/cgx.h
