@@ -116,6 +116,12 @@ static void single(sheet *s, const char *name, int32_t x, int32_t y) {
     add(s, cgx_write_sref(ON(s), 0, at, no_real, no_real, no_grid, TEXT(name)));
 }
 
+/* Reflected, turned by 90 degrees, and twice as large. */
+static void turned(sheet *s, const char *name, cgx_point at) {
+    uint8_t flags = CGX_SREF_ANGLE | CGX_SREF_MAGNIF | CGX_SREF_REFLECT;
+    add(s, cgx_write_sref(ON(s), flags, at, ninety, two, no_grid, TEXT(name)));
+}
+
 static void array(sheet *s, const char *name, cgx_point at, cgx_grid grid) {
     add(s, cgx_write_sref(ON(s), CGX_SREF_ARRAY, at, no_real, no_real, grid, TEXT(name)));
 }
@@ -147,11 +153,12 @@ static void ring_cell(sheet *s) {
     label(s, 2700, -900, "loop");
 }
 
-/* Captions in three scripts. The last but one ends inside its fourth letter. */
+/* Captions in three scripts, one of which ends inside its fourth letter. */
 static void captions(sheet *s) {
     layer(s, 63, 0, "captions");
     label(s, 0, 40000, "ring oscillator");
-    label(s, 0, 38000, "\xcf\x84\xce\xb1\xce\xbb\xce\xb1\xce\xbd\xcf\x84\xcf\x89\xcf\x84\xce\xae\xcf\x82"); /* ταλαντωτής */
+    /* ταλαντωτής */
+    label(s, 0, 38000, "\xcf\x84\xce\xb1\xce\xbb\xce\xb1\xce\xbd\xcf\x84\xcf\x89\xcf\x84\xce\xae\xcf\x82");
     label(s, 0, 36000, "\xe7\x99\xba\xe6\x8c\xaf\xe5\x9b\x9e\xe8\xb7\xaf"); /* 発振回路 */
     label(s, 0, 34000, "\xe7\x99\xba\xe6\x8c\xaf\xe5\x9b\x9e\xe8\xb7");
     layer(s, 63, 1, "\xe6\xb3\xa8\xe8\xa8\x98"); /* 注記 */
@@ -168,7 +175,7 @@ static void top_cell(sheet *s) {
     add(s, cgx_write_property(ON(s), 5, TEXT("side=right")));
     add(s, cgx_write_property(ON(s), 6, TEXT("pins=4")));
     array(s, "PAD", right, right_column);
-    add(s, cgx_write_sref(ON(s), CGX_SREF_ANGLE | CGX_SREF_MAGNIF | CGX_SREF_REFLECT, centre, ninety, two, no_grid, TEXT("RING")));
+    turned(s, "RING", centre);
     single(s, "RING", 15000, 5000);
     captions(s);
     add(s, cgx_write_caption_frame(ON(s), -1000, -1000, 51000, 43000, TEXT("TOP")));

@@ -68,7 +68,8 @@ static void longest_label(void) {
 
 /* A frame in a cell makes a drawing that is accepted. */
 static void read_back(void) {
-    blob buf = {lend(300), 300}, start = hex(CGX LIBRARY_M STRUCT_A), whole = hex(CGX LIBRARY_M STRUCT_A CARD CAPTION ENDLIB), file;
+    blob buf = {lend(300), 300}, start = hex(CGX LIBRARY_M STRUCT_A), file;
+    blob whole = hex(CGX LIBRARY_M STRUCT_A CARD CAPTION ENDLIB);
     cgx_place p;
     memcpy(buf.bytes, start.bytes, start.size);
     p = cgx_start(buf.bytes, start.size).place;
