@@ -1,20 +1,18 @@
 /* CGX chip-layout files: a checker, a walk over the records, a normal-form maker and a writer.
  *
- * Every function is proved to answer what is written here for every input, to read and write nothing but the
- * memory that it is lent, and to end. It keeps no state and allocates nothing, so it may be called from several
- * threads at once. The library calls no other.
- *
- * What the caller must see to:
- *   - A pointer with a count is never NULL, also where the count is 0, and that many elements can be read there,
- *     or written where the pointer is not const. An int32_t pointer is aligned.
- *   - A buffer that is written overlaps nothing else that the same call is lent, and no other thread uses it
- *     during the call.
- *   - A bool inside a struct holds 0 or 1, as it does where the struct came from this library or from C code that
- *     assigned its members.
+ * Every function is proved to answer what is written here, to touch no memory but what it is lent, and to end, for every
+ * input of a caller who sees to this:
+ *   - A pointer with a count is not NULL, also where the count is 0, and that many elements can be read there, or written
+ *     where the pointer is not const. An int32_t pointer is aligned.
+ *   - A buffer that is written overlaps nothing else that the same call is lent. During a call nobody else changes what it
+ *     is lent, or reads what it writes.
+ *   - A bool inside a struct holds 0 or 1, as in every struct that this library answers or whose members C code has set.
  * Any bytes may stand in a file, and any numbers in a struct: what is bad is refused, with a number.
  *
- * Offsets count bytes from the beginning of the file. A text is a part of the file without its closing zero
- * bytes, and is not zero-terminated; it may be any bytes but zero, half a UTF-8 letter included. */
+ * No function keeps state, allocates memory or needs another library, so all may be called from several threads at once.
+ *
+ * Offsets count bytes from the beginning of the file. A text is a part of the file without its closing zero bytes, and is
+ * not zero-terminated; it may be any bytes but zero, half a UTF-8 letter included. */
 #ifndef CGX_H
 #define CGX_H
 
@@ -37,26 +35,29 @@ enum cgx_refusal {
     CGX_REFUSED_SIZE = 5,        /* a record's size is odd or below 4: the record */
     CGX_REFUSED_ORDER = 6,       /* the record may not stand here: the record */
     CGX_REFUSED_FLAGS = 7,       /* WIRE flags above 2, or SREF flags above 15: the record */
-    CGX_REFUSED_LENGTH = 8,      /* the length of a body; in the writer too few boxes or points, or half of one: the record */
-    CGX_REFUSED_DATE = 9,        /* a date that no calendar has: the record */
+    CGX_REFUSED_LENGTH = 8,      /* a body too short, too long or not whole; too few boxes or points: the record */
+    CGX_REFUSED_DATE = 9,        /* a member of a date out of its range, or its last byte not 0: the record */
     CGX_REFUSED_NUMBER = 10,     /* munit, uunit or magnif not above 0, cols or rows below 1, a reversed box: the record */
-    CGX_REFUSED_STRING = 11,     /* a zero byte inside a text, or a string that does not end as it must: the record */
+    CGX_REFUSED_STRING = 11,     /* a zero byte inside a text, or not one or two behind it: the record */
     CGX_REFUSED_NOT_CLOSED = 12, /* the last point of a POLY is not its first: the record */
     CGX_REFUSED_TRAILING = 13,   /* bytes after ENDLIB: the first of them */
     CGX_REFUSED_ROOM = 14,       /* the buffer is smaller than what would be written: none */
     CGX_REFUSED_TOO_LARGE = 15,  /* the record would have more than 65,534 bytes: none */
-    CGX_REFUSED_NO_SUCH = 16     /* a place that no walk or writer can have come to, no good LAYER at the offset asked,
-                                    or no such cell: none */
+    CGX_REFUSED_NO_SUCH = 16     /* a forged place (cgx_step), no good LAYER at an offset, or no such cell: none */
 };
 
-/* The kinds of record. Types 11 to 255 are unknown: they are skipped. */
+/* The kinds of record. Types 11 to 255 are unknown: behind LIBRARY they are skipped.
+ *
+ * Order, which 6 is about: LIBRARY is first and stands once, ENDLIB is last. CPRPTY stands behind a STRUCT with only CPRPTY
+ * between. PROPERTY, LAYER and SREF need an open cell; BOX, POLY, WIRE and TEXT need a layer, which ends with its cell.
+ * Behind PROPERTY stands another, or the BOX, POLY, WIRE, TEXT or SREF that takes the whole run of them. */
 enum cgx_kind {
     CGX_LIBRARY = 0,
-    CGX_STRUCT = 1, /* opens a cell */
-    CGX_CPRPTY = 2, /* a property of the cell */
-    CGX_PROPERTY = 3, /* a property of the BOX, POLY, WIRE, TEXT or SREF that follows */
-    CGX_LAYER = 4,
-    CGX_BOX = 5,
+    CGX_STRUCT = 1,   /* opens a cell */
+    CGX_CPRPTY = 2,   /* a property of the cell */
+    CGX_PROPERTY = 3, /* a property of the object that follows */
+    CGX_LAYER = 4,    /* the layer of what follows, up to the next LAYER or STRUCT */
+    CGX_BOX = 5,      /* one box or more */
     CGX_POLY = 6,
     CGX_WIRE = 7,
     CGX_TEXT = 8,
@@ -70,21 +71,20 @@ enum cgx_end_style { CGX_END_FLUSH = 0, CGX_END_ROUNDED = 1, CGX_END_EXTENDED = 
 /* The flags of an SREF: the first, second and fourth say which fields stand in it. */
 enum cgx_sref_flag { CGX_SREF_ANGLE = 1, CGX_SREF_MAGNIF = 2, CGX_SREF_REFLECT = 4, CGX_SREF_ARRAY = 8 };
 
-/* The flags of a TEXT, all 256 of which are allowed. Of the four places across and up, 3 means the same as 0. */
+/* The bits of a TEXT's flags; every flags byte is allowed. */
 enum cgx_text_flag {
-    CGX_TEXT_TURNS = 0x03,  /* quarter turns */
-    CGX_TEXT_MIRROR = 0x04, /* mirrored in y after the turn */
-    CGX_TEXT_HALF = 0x08,   /* 45 degrees more */
-    CGX_TEXT_ACROSS = 0x30, /* 0x00 left, 0x10 centre, 0x20 right */
-    CGX_TEXT_UP = 0xc0      /* 0x00 bottom, 0x40 centre, 0x80 top */
+    CGX_TEXT_TURNS = 0x03,      /* quarter turns */
+    CGX_TEXT_MIRROR = 0x04,     /* mirrored in y after the turn */
+    CGX_TEXT_45 = 0x08,         /* 45 degrees more */
+    CGX_TEXT_HORIZONTAL = 0x30, /* 0x00 and 0x30 left, 0x10 centre, 0x20 right */
+    CGX_TEXT_VERTICAL = 0xc0    /* 0x00 and 0xc0 bottom, 0x40 centre, 0x80 top */
 };
 
-/* Limits. */
+/* The most that a record can have. */
 enum {
-    CGX_MAX_SIZE = 65534,     /* bytes of a record */
-    CGX_MAX_BOXES = 4095,     /* boxes of a BOX */
-    CGX_MAX_POLY_POINTS = 8191,
-    CGX_MIN_POLY_POINTS = 4,
+    CGX_MAX_SIZE = 65534, /* bytes, its header of four among them */
+    CGX_MAX_BOXES = 4095,
+    CGX_MAX_POLY_POINTS = 8191, /* and at least 4 */
     CGX_MAX_WIRE_POINTS = 8190
 };
 
@@ -103,9 +103,9 @@ typedef struct {
     size_t count; /* how many, where present */
 } cgx_run;
 
-/* Where a walk or a writer stands, and what came before. Copy it freely; a caller has no need to look inside. */
+/* Where a walk or a writer stands, and what came before. Copy it freely and hand it on unchanged. */
 typedef struct {
-    size_t at;
+    size_t at;        /* in a writer: how many bytes are written */
     cgx_offset cell;  /* the STRUCT of the open cell */
     cgx_offset layer; /* the LAYER in force */
     cgx_run run;      /* properties that await their object */
@@ -174,7 +174,7 @@ typedef struct {
     uint64_t m;
 } cgx_real;
 
-/* The array of an SREF that is read: columns and rows, and the two points that its point and these make an array of. */
+/* The array of an SREF that is read, as in a GDSII AREF: `across` lies cols columns from the SREF's point, `up` rows rows. */
 typedef struct {
     bool present;
     int32_t cols;
@@ -278,19 +278,19 @@ typedef struct {
     size_t length;  /* where made: how many bytes were written */
 } cgx_normal_answer;
 
-/* A part of the file where own is true, else the beginning of the substitute. */
+/* A part of the file, or of the substitute. */
 typedef struct {
-    bool own;
-    size_t at;
+    bool own;   /* of the file */
+    size_t at;  /* where own: the offset; else 0, the beginning of the substitute */
     size_t len;
 } cgx_name_answer;
 
 enum cgx_extent_status { CGX_EXTENT_FOUND = 0, CGX_EXTENT_NOTHING = 1, CGX_EXTENT_REFUSED = 2 };
 
 typedef struct {
-    uint8_t status; /* cgx_extent_status */
-    uint8_t number; /* where refused: cgx_refusal */
-    cgx_offset at;  /* where refused: the offset that it names */
+    uint8_t status;  /* cgx_extent_status */
+    uint8_t number;  /* where refused: cgx_refusal */
+    cgx_offset at;   /* where refused: the offset that it names */
     cgx_sides sides; /* where found */
 } cgx_extent_answer;
 
@@ -377,8 +377,8 @@ cgx_normal_answer cgx_normal_form(const uint8_t *file, size_t size, uint8_t *out
 /* Writes the four bytes that a file begins with. Not ready: 14, where the buffer has fewer; every byte then stays. */
 cgx_start_answer cgx_write_start(uint8_t *buf, size_t room);
 
-/* LIBRARY: first, and once. `version` is kept as its flags. Reals may be given in any form and are written in the normal
-   one. 9 a date; 10 munit or uunit not above 0; 11; 15. Size 36 + text(len). */
+/* LIBRARY. `version` is kept as its flags. Reals may be given in any form and are written in the normal one. 9 a date;
+   10 munit or uunit not above 0; 11; 15. Size 36 + text(len). */
 cgx_answer cgx_write_library(uint8_t *buf, size_t room, cgx_place place, uint8_t version, cgx_eight munit,
     cgx_eight uunit, cgx_date created, cgx_date modified, const uint8_t *name, size_t len);
 
@@ -386,16 +386,15 @@ cgx_answer cgx_write_library(uint8_t *buf, size_t room, cgx_place place, uint8_t
 cgx_answer cgx_write_struct(uint8_t *buf, size_t room, cgx_place place, cgx_date created, cgx_date modified,
     const uint8_t *name, size_t len);
 
-/* CPRPTY: a property of the cell. Only CPRPTY may stand between it and its STRUCT. 11; 15. Size 8 + text(len). */
+/* CPRPTY: a property of the cell. 11; 15. Size 8 + text(len). */
 cgx_answer cgx_write_cprpty(
     uint8_t *buf, size_t room, cgx_place place, int32_t number, const uint8_t *value, size_t len);
 
-/* PROPERTY: a property of the BOX, POLY, WIRE, TEXT or SREF that follows; after it only these and PROPERTY may stand.
-   11; 15. Size 8 + text(len). */
+/* PROPERTY: a property of the object that follows. 11; 15. Size 8 + text(len). */
 cgx_answer cgx_write_property(
     uint8_t *buf, size_t room, cgx_place place, int32_t number, const uint8_t *value, size_t len);
 
-/* LAYER without a name: the layer of what follows, up to the next LAYER or STRUCT. Size 8. */
+/* LAYER without a name. Size 8. */
 cgx_answer cgx_write_layer(
     uint8_t *buf, size_t room, cgx_place place, cgx_layer_number number, cgx_data_type datatype);
 
@@ -430,7 +429,7 @@ cgx_answer cgx_write_text(uint8_t *buf, size_t room, cgx_place place, uint8_t fl
 cgx_answer cgx_write_sref(uint8_t *buf, size_t room, cgx_place place, uint8_t flags, cgx_point at, cgx_eight angle,
     cgx_eight magnif, cgx_grid grid, const uint8_t *name, size_t len);
 
-/* ENDLIB: last. 6 where a property awaits its object. Size 4. */
+/* ENDLIB: the drawing is complete, and no further record is taken. Size 4. */
 cgx_answer cgx_write_endlib(uint8_t *buf, size_t room, cgx_place place);
 
 /* ---- makers: several records, all or nothing

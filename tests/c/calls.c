@@ -15,7 +15,8 @@ cgx_answer make_call(uint8_t *buf, size_t room, cgx_place place, const call *c) 
     datatype.number = c->datatype;
     switch (c->which) {
     case A_LIBRARY:
-        a = cgx_write_library(buf, room, place, c->flags, c->first, c->second, c->created, c->modified, text.bytes, text.size);
+        a = cgx_write_library(buf, room, place, c->flags, c->first, c->second, c->created, c->modified, text.bytes,
+            text.size);
         break;
     case A_STRUCT: a = cgx_write_struct(buf, room, place, c->created, c->modified, text.bytes, text.size); break;
     case A_CPRPTY: a = cgx_write_cprpty(buf, room, place, c->number, text.bytes, text.size); break;
@@ -100,14 +101,8 @@ void expect_refused(const char *name, cgx_place place, const call *c, uint8_t nu
 
 void expect_forged_refused(const char *name, const call *c) {
     enum { ROOM = 200 };
-    cgx_place start = place_in(AT_START), p;
-    p = start, p.at = 0, expect_refused_in(name, ROOM, p, c, CGX_REFUSED_NO_SUCH, 0);
-    p = start, p.at = 2, expect_refused_in(name, ROOM, p, c, CGX_REFUSED_NO_SUCH, 0);
-    p = start, p.at = 5, expect_refused_in(name, ROOM, p, c, CGX_REFUSED_NO_SUCH, 0);
-    p = start, p.at = ROOM + 2, expect_refused_in(name, ROOM, p, c, CGX_REFUSED_NO_SUCH, 0);
-    p = start, p.at = SIZE_MAX - 1, expect_refused_in(name, ROOM, p, c, CGX_REFUSED_NO_SUCH, 0);
-    p = start, p.cell.present = true, p.cell.at = 5, expect_refused_in(name, ROOM, p, c, CGX_REFUSED_NO_SUCH, 0);
-    p = start, p.layer.present = true, p.layer.at = 5, expect_refused_in(name, ROOM, p, c, CGX_REFUSED_NO_SUCH, 0);
-    p = start, p.run.present = true, p.run.first = 5, expect_refused_in(name, ROOM, p, c, CGX_REFUSED_NO_SUCH, 0);
-    p = start, p.run.present = true, p.run.count = 5, expect_refused_in(name, ROOM, p, c, CGX_REFUSED_NO_SUCH, 0);
+    cgx_place places[FORGED];
+    size_t i;
+    forged_places(ROOM, places);
+    for (i = 0; i < FORGED; i++) expect_refused_in(name, ROOM, places[i], c, CGX_REFUSED_NO_SUCH, 0);
 }

@@ -64,7 +64,7 @@ void expect_refused(const char *name, cgx_place place, const call *c, uint8_t nu
 /* The same in a buffer of so many bytes. */
 void expect_refused_in(const char *name, size_t room, cgx_place place, const call *c, uint8_t number, size_t at);
 
-/* Each of the places that are forged for a buffer of `room` bytes is refused with 16. */
+/* The call is refused with 16 at each forged place. */
 void expect_forged_refused(const char *name, const call *c);
 
 #define ONE {{0x41, 0x10, 0, 0, 0, 0, 0, 0}}

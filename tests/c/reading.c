@@ -301,33 +301,29 @@ static void nano(void) {
 
 /* ---- forged places: each clause of 16, and what is no forgery */
 
-static void forged_step(blob file, cgx_place place, const char *what) {
+static void refuse_place(blob file, cgx_place place) {
     cgx_step_answer step = cgx_step(file.bytes, file.size, place);
     expect(step.status == CGX_STEP_REFUSED && step.number == CGX_REFUSED_NO_SUCH && !step.at.present
-            && same_place(step.place, place), "forged place", what);
+            && same_place(step.place, place), "forged place", "is 16");
 }
 
 static void forged(void) {
     blob file = hex(SMALL), tiny = copy_of("cgx", 3);
-    cgx_place start = cgx_start(file.bytes, file.size).place, p;
+    cgx_place start = cgx_start(file.bytes, file.size).place, places[FORGED], equal = start;
     cgx_step_answer step;
-    p = start, p.at = 0, forged_step(file, p, "offset 0");
-    p = start, p.at = 2, forged_step(file, p, "offset 2");
-    p = start, p.at = 5, forged_step(file, p, "odd");
-    p = start, p.at = 98, forged_step(file, p, "past the end");
-    p = start, p.at = SIZE_MAX - 1, forged_step(file, p, "far past the end");
-    p = start, p.cell.present = true, p.cell.at = 5, forged_step(file, p, "cell above");
-    p = start, p.layer.present = true, p.layer.at = 5, forged_step(file, p, "layer above");
-    p = start, p.run.present = true, p.run.first = 5, p.run.count = 1, forged_step(file, p, "run above");
-    p = start, p.run.present = true, p.run.first = 4, p.run.count = 5, forged_step(file, p, "count above");
-    forged_step(tiny, start, "under 4 bytes");
+    size_t i;
+    forged_places(file.size, places);
+    for (i = 0; i < FORGED; i++) refuse_place(file, places[i]);
+    refuse_place(tiny, start);
 
-    p = start, p.at = 92, p.library = true, p.cell.present = p.layer.present = true, p.cell.at = p.layer.at = 92;
-    step = cgx_step(file.bytes, file.size, p);
+    equal.at = equal.cell.at = equal.layer.at = 92;
+    equal.library = equal.cell.present = equal.layer.present = true;
+    step = cgx_step(file.bytes, file.size, equal);
     expect(step.status == CGX_STEP_RECORD && step.view.kind == CGX_ENDLIB && step.view.cell.at == 92, "forged place",
         "equal is no forgery");
-    p.at = 96, p.ended = true;
-    expect(cgx_step(file.bytes, file.size, p).status == CGX_STEP_DONE, "forged place", "the end of the file");
+    equal.at = file.size;
+    equal.ended = true;
+    expect(cgx_step(file.bytes, file.size, equal).status == CGX_STEP_DONE, "forged place", "the end of the file is none");
     drop(tiny);
     drop(file);
 }

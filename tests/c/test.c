@@ -138,6 +138,23 @@ bool same_place(cgx_place a, cgx_place b) {
         && a.library == b.library && a.fresh == b.fresh && a.ended == b.ended;
 }
 
+void forged_places(size_t size, cgx_place places[FORGED]) {
+    const cgx_offset above = {true, 5};
+    const cgx_run run_above = {true, 5, 1}, count_above = {true, 4, 5};
+    cgx_place start = {.at = 4};
+    size_t i;
+    for (i = 0; i < FORGED; i++) places[i] = start;
+    places[0].at = 0;
+    places[1].at = 2;
+    places[2].at = 5;
+    places[3].at = size + 2;
+    places[4].at = SIZE_MAX - 1;
+    places[5].cell = above;
+    places[6].layer = above;
+    places[7].run = run_above;
+    places[8].run = count_above;
+}
+
 const char every_kind[] = CGX
     "0026 00 07 3e4189374bc6a7f0 41ffffffffffffff " DATES "6d00 "            /* 4 LIBRARY "m", version 7 */
     "0016 01 ff " DATES "6100 "                                              /* 42 STRUCT "a" */

@@ -31,6 +31,10 @@ void put_long(uint8_t *to, int32_t number);
 bool same_offset(cgx_offset a, cgx_offset b);
 bool same_place(cgx_place a, cgx_place b);
 
+/* Places that are forged for a file or buffer of `size` bytes, an even number: one for each clause, and more. */
+enum { FORGED = 9 };
+void forged_places(size_t size, cgx_place places[FORGED]);
+
 /* The drawing of 96 bytes: LIBRARY "m", STRUCT "a", an unnamed LAYER, one box, ENDLIB. */
 #define CGX "63677800 "
 #define DATES "07e9 02 06 0e 09 2d 00  07e9 02 06 0e 09 33 00 "

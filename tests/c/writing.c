@@ -230,7 +230,8 @@ static void no_forgery(void) {
     cgx_place p = place_in(IN_LAYER);
     blob bytes = hex(BOX_1);
     p.cell.at = p.layer.at = p.at;
-    p.run.present = true, p.run.first = p.run.count = p.at;
+    p.run.present = true;
+    p.run.first = p.run.count = p.at;
     expect_taken("equal is no forgery", p, &box, bytes);
     expect_refused_in("the end of the buffer is no forgery", p.at, p, &box, CGX_REFUSED_ROOM, 0);
     drop(bytes);
