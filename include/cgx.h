@@ -278,10 +278,10 @@ typedef struct {
     size_t length;  /* where made: how many bytes were written */
 } cgx_normal_answer;
 
-/* A part of the file, or of the substitute. */
+/* A part of the file where own, else the beginning of the substitute. */
 typedef struct {
-    bool own;   /* of the file */
-    size_t at;  /* where own: the offset; else 0, the beginning of the substitute */
+    bool own;
+    size_t at; /* where own: the offset */
     size_t len;
 } cgx_name_answer;
 
