@@ -40,12 +40,12 @@ typedef struct {
 
 /* Where a call is made: behind these records. */
 typedef enum {
-    AT_START,    /* the four bytes */
-    IN_LIBRARY,  /* LIBRARY */
-    IN_CELL,     /* and STRUCT */
-    IN_LAYER,    /* and LAYER */
-    IN_RUN,      /* and PROPERTY */
-    ENDED        /* ENDLIB, behind LAYER */
+    AT_START,   /* the four bytes */
+    IN_LIBRARY, /* LIBRARY */
+    IN_CELL,    /* and STRUCT */
+    IN_LAYER,   /* and LAYER */
+    IN_RUN,     /* and PROPERTY */
+    ENDED       /* ENDLIB, behind LAYER */
 } where;
 
 cgx_place place_in(where w);
