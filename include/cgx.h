@@ -319,6 +319,23 @@ cgx_start_answer cgx_start(const uint8_t *file, size_t size);
  * the walk was started on: of another one a step says what its bytes say there. */
 cgx_step_answer cgx_step(const uint8_t *file, size_t size, cgx_place place);
 
+/* The place before a record that a walk has been over, to read it again with cgx_step: `at` is view->cell.at for its STRUCT,
+   view->layer.at for its LAYER, and view->run.first for its properties, which run.count steps then give. */
+static inline cgx_place cgx_place_before(const cgx_view *view, size_t at) {
+    cgx_place place;
+    place.at = at;
+    place.cell = view->cell;
+    place.layer = view->layer;
+    place.layer.present = view->layer.present && view->layer.at <= at;
+    place.run.present = false;
+    place.run.first = 0;
+    place.run.count = 0;
+    place.library = true;
+    place.fresh = false;
+    place.ended = false;
+    return place;
+}
+
 /* Box i, from 0, of a BOX's list. Not found where the list is shorter or the box does not lie inside the file. */
 cgx_box_answer cgx_box_at(const uint8_t *file, size_t size, cgx_list boxes, size_t i);
 

@@ -291,6 +291,26 @@ static void views(void) {
     drop(file);
 }
 
+/* From the view of the BOX back to its STRUCT, its LAYER and its two properties, over the unknown record between them. */
+static void read_again(void) {
+    blob file = hex(every_kind);
+    cgx_place place = cgx_start(file.bytes, file.size).place;
+    cgx_step_answer step, cell, layer, first, second;
+    do {
+        step = cgx_step(file.bytes, file.size, place);
+        place = step.place;
+    } while (step.status == CGX_STEP_RECORD && step.view.kind != CGX_BOX);
+    cell = cgx_step(file.bytes, file.size, cgx_place_before(&step.view, step.view.cell.at));
+    layer = cgx_step(file.bytes, file.size, cgx_place_before(&step.view, step.view.layer.at));
+    first = cgx_step(file.bytes, file.size, cgx_place_before(&step.view, step.view.run.first));
+    second = cgx_step(file.bytes, file.size, first.place);
+    expect(cell.status == CGX_STEP_RECORD && is_view(&cell.view, &expected_views[1]), "read again", "STRUCT");
+    expect(layer.status == CGX_STEP_RECORD && is_view(&layer.view, &expected_views[3]), "read again", "LAYER");
+    expect(first.status == CGX_STEP_RECORD && is_view(&first.view, &expected_views[4]), "read again", "first PROPERTY");
+    expect(second.status == CGX_STEP_RECORD && is_view(&second.view, &expected_views[5]), "read again", "second PROPERTY");
+    drop(file);
+}
+
 /* 004's second real, as uunit. */
 static void nano(void) {
     blob file = hex(SMALL);
@@ -444,6 +464,7 @@ void test_reading(void) {
     for (i = 0; i < sizeof accepted_files / sizeof accepted_files[0]; i++) accept(&accepted_files[i]);
     most_boxes();
     views();
+    read_again();
     nano();
     forged();
     made_up();
