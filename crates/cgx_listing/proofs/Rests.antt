@@ -194,3 +194,10 @@ listed f out {text} {after} {n} e s =
       inside = s .inside;
       output = s .bytes ∙ put-is out 0 text h ∙ ap (λ (k : ℕ). text ++ drop k out) (sym (s .behind)) ∙ ap (λ (x : List ℕ). x ++ drop n out) e;
     }
+
+-- as callers want it
+pub listed-inside : {f out after : List ℕ} {n : ℕ} → Listed f out after n → n ≤ length after
+listed-inside {f} {out} {after} {n} h =
+    let l = h .long in
+    let x = ap length (h .output) ∙ length-append (listingOf f) (drop n out) in
+    omega arith
