@@ -2,6 +2,7 @@
 // such a struct, so each is proved by hand. `read_next` has plain parameters, and asks no such proof of its callers.
 ghost use mathlib.Core.Path.{_≡_};
 ghost use Rattle.cgx_walk.specs.Walk.{StepMade};
+ghost use Rattle.cgx_reader.specs.Reading.{leftAt, Moves};
 use cgx_spec::Place;
 use cgx_walk::Outcome;
 use cgx_walk::step;
@@ -24,6 +25,46 @@ impl<'a> Reader<'a> {
         ensures { λ r. ⌜ StepMade (now (self .entry .file)) (self .entry .place) r ⌝ }
     {
         step(self.file, self.place)
+    }
+
+    // One step. The reader goes on behind the record that it is given, and stays where it is at the end or at a refusal.
+    pub fn next(&mut self) -> Outcome
+        ensures { λ r. ⌜ (now (self .exit) .file ≡ now (self .entry) .file) × Moves (now (now (self .entry) .file)) (now (self .entry) .place) r (now (self .exit) .place) ⌝ }
+    {
+        let moved = step_from(self.file, self.place);
+        self.place = moved.place;
+        moved.outcome
+    }
+}
+
+// What a step answers, and the place after it.
+struct Moved {
+    outcome: Outcome,
+    place: Place,
+}
+
+fn step_from(file: &[u8], place: Place) -> Moved
+    ensures { λ r. ⌜ Moves (now (file .entry)) place (r .outcome) (r .place) ⌝ }
+{
+    let outcome = step(file, place);
+    let after = left_at(place, outcome);
+    Moved {
+        outcome,
+        place: after,
+    }
+}
+
+fn left_at(place: Place, o: Outcome) -> Place
+    ensures { λ r. ⌜ r ≡ leftAt place o ⌝ }
+{
+    match o {
+        Outcome::Record(_, after) => after,
+        Outcome::Done => place,
+        Outcome::Refused {
+            number: _,
+            at: _,
+            place: _,
+        } => place,
     }
 }
 

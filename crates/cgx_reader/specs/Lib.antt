@@ -1,0 +1,2 @@
+-- Where a reader stands.
+pub mod Reading
