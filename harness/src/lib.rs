@@ -1,0 +1,14 @@
+//! An independent CGX implementation, to test another one against.
+//!
+//! * [`reference`] reads, checks, normalises, writes and lists drawings. It was
+//!   written from the papers alone; `CHOICES.md` tells what was chosen where
+//!   they leave room.
+//! * [`generate`] makes files, places and writer calls to try it on. It pushes
+//!   its bytes itself, so that an error in the reference writer cannot hide.
+//! * [`drive`] hands generated writer calls to the reference writer.
+
+#![forbid(unsafe_code)]
+
+pub mod drive;
+pub mod generate;
+pub mod reference;
