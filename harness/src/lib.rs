@@ -6,9 +6,13 @@
 //! * [`generate`] makes files, places and writer calls to try it on. It pushes
 //!   its bytes itself, so that an error in the reference writer cannot hide.
 //! * [`drive`] hands generated writer calls to the reference writer.
+//! * [`archive`] calls the proved crates, with the same types.
+//! * [`compare`] asks both the same and tells where they differ.
 
-#![forbid(unsafe_code)]
+#![deny(unsafe_code)]
 
+pub mod archive;
+pub mod compare;
 pub mod drive;
 pub mod generate;
 pub mod reference;

@@ -1,10 +1,12 @@
 //! The CGX reference: reader, whole-file checker, writer, normal form, lister.
 
 mod bytes;
+mod choices;
 mod extent;
 mod kind;
 mod layer;
 mod lister;
+mod lists;
 mod meaning;
 mod normal;
 mod numbers;
@@ -20,6 +22,7 @@ pub use extent::{extent, Rect};
 pub use kind::{limits, Kind};
 pub use layer::{good_layer, layer_name, Shown, Source};
 pub use lister::{lister, LARGEST_INPUT};
+pub use lists::{box_at, point_at, text_inside};
 pub use meaning::same_meaning;
 pub use normal::normal_form;
 pub use numbers::{DataType, Date, LayerNo, Real, StoredReal};

@@ -270,24 +270,40 @@ fn made_up_context_is_believed() {
         ..bare
     }));
 
+    // The choices of CHOICES.md: a layer, or the room after STRUCT, is not
+    // enough without a cell.
+    assert!(refused_6(Place {
+        layer: Some(2),
+        ..bare
+    }));
+
     let with_layer = Place {
+        cell: Some(0),
         layer: Some(2),
         run: Some(Run { first: 1, count: 3 }),
         ..bare
     };
     let Step::Record(view, next) = step(&file, with_layer) else {
-        panic!("a layer is all a BOX needs");
+        panic!("a cell and a layer are all a BOX needs");
     };
-    assert_eq!((view.cell, view.layer), (None, Some(2)));
+    assert_eq!((view.cell, view.layer), (Some(0), Some(2)));
     assert_eq!((view.run_first, view.run_count), (Some(1), 3));
     assert_eq!(next.run, None);
 
-    let zone = Place {
+    let no_cell = Place {
         offset: drawing.offset_of(1),
         after_struct: true,
         ..bare
     };
+    let zone = Place {
+        cell: Some(3),
+        ..no_cell
+    };
     assert!(matches!(step(&file, zone), Step::Record(view, _) if view.kind == Kind::Cprpty));
+    assert!(matches!(
+        step(&file, no_cell),
+        Step::Refused { number: 6, .. }
+    ));
     let ended = Place {
         ended: true,
         ..bare
@@ -312,4 +328,21 @@ fn made_up_context_is_believed() {
         ..ended
     };
     assert_eq!(step(&file, end), Step::Done);
+}
+
+/// The third choice of CHOICES.md: LIBRARY clears what a made-up place kept.
+#[test]
+fn library_clears_cell_and_layer() {
+    use cgx_harness::generate::drawing::*;
+    let file = Drawing::of(vec![plain(LIBRARY), plain(ENDLIB)]).bytes();
+    let made_up = Place {
+        cell: Some(0),
+        layer: Some(4),
+        ..Place::START
+    };
+    let Step::Record(view, next) = step(&file, made_up) else {
+        panic!("LIBRARY may stand here");
+    };
+    assert_eq!((view.cell, view.layer), (None, None));
+    assert_eq!((next.cell, next.layer), (None, None));
 }

@@ -1,5 +1,6 @@
 //! A place in a file: an offset and the context so far.
 
+use super::choices;
 use super::kind::{limits, Kind};
 
 /// A run of PROPERTY records waiting for its object.
@@ -62,11 +63,14 @@ impl Place {
     pub fn allows(&self, kind: Kind) -> bool {
         let first_and_once = self.library_seen != (kind == Kind::Library);
         let run_goes_on = self.run.is_none() || kind == Kind::Property || kind.is_object();
+        let cell_if = |needed: bool| self.cell.is_some() || !needed;
         let context = match kind {
             Kind::Library | Kind::Struct | Kind::Endlib => true,
-            Kind::Cprpty => self.after_struct,
+            Kind::Cprpty => self.after_struct && cell_if(choices::CPRPTY_NEEDS_A_CELL),
             Kind::Property | Kind::Layer | Kind::Sref => self.cell.is_some(),
-            Kind::Box | Kind::Poly | Kind::Wire | Kind::Text => self.layer.is_some(),
+            Kind::Box | Kind::Poly | Kind::Wire | Kind::Text => {
+                self.layer.is_some() && cell_if(choices::OBJECT_ON_A_LAYER_NEEDS_A_CELL)
+            }
         };
         !self.ended && first_and_once && run_goes_on && context
     }
@@ -83,7 +87,12 @@ impl Place {
         self.offset = at + size;
         self.after_struct = matches!(kind, Kind::Struct | Kind::Cprpty);
         match kind {
-            Kind::Library => self.library_seen = true,
+            Kind::Library => {
+                self.library_seen = true;
+                if choices::LIBRARY_CLEARS_CELL_AND_LAYER {
+                    (self.cell, self.layer) = (None, None);
+                }
+            }
             Kind::Struct => {
                 self.cell = Some(at);
                 self.layer = None;

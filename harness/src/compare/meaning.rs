@@ -1,0 +1,26 @@
+//! Two files have one normal form exactly when they mean the same.
+
+use super::report::Case;
+use crate::archive;
+use crate::reference::{self, Refusal};
+
+pub fn pair(case: &mut Case, file: &[u8], other: &[u8]) {
+    let alike = reference::same_meaning(file, other).expect("both files are good");
+    let forms_alike = form(file) == form(other);
+    case.same(
+        || {
+            "whether the two mean the same, and whether the archive gives one normal form"
+                .to_string()
+        },
+        &alike,
+        &forms_alike,
+    );
+}
+
+/// The normal form the archive makes.
+fn form(file: &[u8]) -> Result<Vec<u8>, Refusal> {
+    let mut out = vec![0; file.len()];
+    let length = archive::normal_form(file, &mut out)?;
+    out.truncate(length);
+    Ok(out)
+}
