@@ -7,6 +7,7 @@
 //!   its bytes itself, so that an error in the reference writer cannot hide.
 //! * [`drive`] hands generated writer calls to the reference writer.
 //! * [`archive`] calls the proved crates, with the same types.
+//! * [`plain_c`] calls the plain C that both are measured against.
 //! * [`compare`] asks both the same and tells where they differ.
 
 #![deny(unsafe_code)]
@@ -15,4 +16,5 @@ pub mod archive;
 pub mod compare;
 pub mod drive;
 pub mod generate;
+pub mod plain_c;
 pub mod reference;
