@@ -90,20 +90,30 @@ pub fn make(buffer: &mut [u8], place: Place, call: &Call) -> Option<Answer> {
     make_plain(buffer, place.into(), call).map(Answer::from)
 }
 
-/// The place after a call as C sees it, for measuring it alone; none where it
-/// is refused or not exported.
+/// Writes boxes as C does, for measuring that alone: moves the place, or says
+/// that the call was refused.
 #[inline]
-pub fn written(buffer: &mut [u8], place: PlainPlace, call: &Call) -> Option<PlainPlace> {
-    make_plain(buffer, place, call)?.taken()
+pub fn boxes_plain(buffer: &mut [u8], place: &mut PlainPlace, sides: &[i32]) -> bool {
+    let (buf, room) = (buffer.as_mut_ptr(), buffer.len());
+    let answer = unsafe { cgx_write_box(buf, room, *place, sides.as_ptr(), sides.len()) };
+    *place = answer.place;
+    answer.taken
 }
 
-/// The start of a writer as C sees it; none where it is refused.
-pub fn writer_start_plain(buffer: &mut [u8]) -> Option<PlainPlace> {
-    unsafe { cgx_write_start(buffer.as_mut_ptr(), buffer.len()) }.ready()
+/// Writes a text in the same way.
+#[inline]
+#[rustfmt::skip]
+pub fn text_plain(buffer: &mut [u8], place: &mut PlainPlace, flags: u8, [x, y]: [i32; 2], width: i32, label: &[u8]) -> bool {
+    let (buf, room) = (buffer.as_mut_ptr(), buffer.len());
+    let at = Point { x, y };
+    let answer = unsafe {
+        cgx_write_text(buf, room, *place, flags, at, width, label.as_ptr(), label.len())
+    };
+    *place = answer.place;
+    answer.taken
 }
 
 #[rustfmt::skip]
-#[inline]
 fn make_plain(buffer: &mut [u8], place: PlainPlace, call: &Call) -> Option<PlainAnswer> {
     let (buf, room) = (buffer.as_mut_ptr(), buffer.len());
     let eight = |bytes| PlainEight { bytes };

@@ -410,18 +410,12 @@ impl From<PlainStart> for Result<Place, Refusal> {
 
 #[repr(C)]
 pub struct PlainStep {
-    status: u8,
+    /// 0 a record, 1 done, 2 refused.
+    pub status: u8,
     number: u8,
     at: PlainOffset,
-    place: PlainPlace,
-    view: PlainView,
-}
-
-impl PlainStep {
-    /// The view and the place after it, of a step that found a record.
-    pub fn record(&self) -> Option<(&PlainView, PlainPlace)> {
-        (self.status == 0).then_some((&self.view, self.place))
-    }
+    pub place: PlainPlace,
+    pub view: PlainView,
 }
 
 impl From<PlainStep> for Step {
@@ -541,17 +535,10 @@ impl From<PlainExtent> for Result<Option<Rect>, Refusal> {
 
 #[repr(C)]
 pub struct PlainAnswer {
-    taken: bool,
+    pub taken: bool,
     number: u8,
     at: PlainOffset,
-    place: PlainPlace,
-}
-
-impl PlainAnswer {
-    /// The place after what was written, of a call that was not refused.
-    pub fn taken(&self) -> Option<PlainPlace> {
-        self.taken.then_some(self.place)
-    }
+    pub place: PlainPlace,
 }
 
 impl From<PlainAnswer> for Answer {

@@ -1,9 +1,10 @@
 //! Measures the archive against the reference, against plain C and against a
 //! bare memcpy of the same bytes.
 //!
-//! `benchmark [--rounds N] [--megabytes M]` runs everything once and prints
-//! markdown tables. All contenders of a line take turns in every round and the
-//! best time of each counts, so a loaded machine is unfair to none of them.
+//! `benchmark [--rounds N] [--megabytes M] [--table WORD] [--mix WORD]` prints
+//! markdown tables, or only those whose names hold the words. All contenders of
+//! a line take turns in every round and the best time of each counts, so a
+//! loaded machine is unfair to none of them.
 
 mod mixes;
 mod timing;
@@ -17,34 +18,66 @@ use cgx_harness::{archive, drive, plain_c};
 use mixes::Mix;
 use timing::{best_of, Best};
 
-const USAGE: &str = "usage: benchmark [--rounds N] [--megabytes M]";
+const USAGE: &str = "usage: benchmark [--rounds N] [--megabytes M] [--table WORD] [--mix WORD]";
+
+struct Options {
+    rounds: usize,
+    megabytes: usize,
+    /// A word in the names of the tables to print; all names hold the empty one.
+    table: String,
+    /// A word in the names of the lines to measure.
+    mix: String,
+}
 
 fn main() -> ExitCode {
-    let Some((rounds, megabytes)) = options(std::env::args().skip(1)) else {
+    let Some(options) = options(std::env::args().skip(1)) else {
         eprintln!("{USAGE}");
         return ExitCode::from(2);
     };
-    let mixes = mixes::all(megabytes << 20);
+    let Options {
+        rounds, megabytes, ..
+    } = options;
+    let size = megabytes << 20;
     println!("best of {rounds} rounds, files of about {megabytes} MiB, times in ms\n");
-    files_table("check", &mixes, rounds, check);
-    files_table("normal form", &mixes, rounds, normal_form);
-    walk_table(&mixes, rounds);
-    writer_table(megabytes << 20, rounds);
+    let wanted = |table: &str| table.contains(&options.table);
+    let mut mixes = Vec::new();
+    if ["check", "normal form", "walk"].into_iter().any(wanted) {
+        mixes = mixes::all(size, &options.mix);
+    }
+    if wanted("check") {
+        files_table("check", &mixes, rounds, check);
+    }
+    if wanted("normal form") {
+        files_table("normal form", &mixes, rounds, normal_form);
+    }
+    if wanted("walk") {
+        walk_table(&mixes, rounds);
+    }
+    if wanted("writer") {
+        writer_table(&mixes::writer_calls(size, &options.mix), rounds);
+    }
     ExitCode::SUCCESS
 }
 
-/// Rounds and megabytes, or none where the arguments make no sense.
-fn options(mut words: impl Iterator<Item = String>) -> Option<(usize, usize)> {
-    let (mut rounds, mut megabytes) = (15, 32);
+/// None where the arguments make no sense.
+fn options(mut words: impl Iterator<Item = String>) -> Option<Options> {
+    let mut options = Options {
+        rounds: 15,
+        megabytes: 32,
+        table: String::new(),
+        mix: String::new(),
+    };
     while let Some(word) = words.next() {
-        let number = words.next()?.parse().ok()?;
+        let value = words.next()?;
         match word.as_str() {
-            "--rounds" => rounds = number,
-            "--megabytes" => megabytes = number,
+            "--rounds" => options.rounds = value.parse().ok()?,
+            "--megabytes" => options.megabytes = value.parse().ok()?,
+            "--table" => options.table = value,
+            "--mix" => options.mix = value,
             _ => return None,
         }
     }
-    (rounds > 0 && megabytes > 0).then_some((rounds, megabytes))
+    (options.rounds > 0 && options.megabytes > 0).then_some(options)
 }
 
 // ---- check and normal form
@@ -129,12 +162,12 @@ fn walk_by_archive(file: &[u8]) -> usize {
     let mut records = 0;
     loop {
         let step = archive::step_plain(file, place);
-        let Some((view, next)) = step.record() else {
+        if step.status != 0 {
             return records;
-        };
-        black_box(view);
+        }
+        black_box(&step.view);
         records += 1;
-        place = next;
+        place = step.place;
     }
 }
 
@@ -161,13 +194,13 @@ fn walk_by_c(file: &[u8]) -> usize {
 
 // ---- the writer
 
-fn writer_table(size: usize, rounds: usize) {
+fn writer_table(workloads: &[(&str, Vec<Call>)], rounds: usize) {
     println!(
         "| writer | archive | Rust | C | memcpy | archive / C | archive / better of the two |"
     );
     println!("|---|---|---|---|---|---|---|");
-    for (name, calls) in mixes::writer_calls(size) {
-        println!("| {name} {}", writer(&calls, rounds).cells());
+    for (name, calls) in workloads {
+        println!("| {name} {}", writer(calls, rounds).cells());
     }
     println!();
 }
@@ -209,7 +242,18 @@ fn taken(answer: Answer) -> Place {
 fn write_by_archive(buffer: &mut [u8], place: Place, calls: &[Call]) {
     let mut place = place.into();
     for call in calls {
-        place = archive::written(buffer, place, call).expect("a good call");
+        assert!(match call {
+            Call::Boxes { sides } => archive::boxes_plain(buffer, &mut place, sides),
+            Call::Text {
+                flags,
+                place: at,
+                width,
+                label,
+            } => {
+                archive::text_plain(buffer, &mut place, *flags, *at, *width, label)
+            }
+            _ => unreachable!("only boxes and texts are measured"),
+        });
     }
     black_box(place);
 }
@@ -217,7 +261,16 @@ fn write_by_archive(buffer: &mut [u8], place: Place, calls: &[Call]) {
 fn write_by_reference(buffer: &mut [u8], place: Place, calls: &[Call]) {
     let mut place = place;
     for call in calls {
-        place = taken(drive::make(buffer, place, call));
+        place = taken(match call {
+            Call::Boxes { sides } => reference::boxes(buffer, place, sides),
+            Call::Text {
+                flags,
+                place: at,
+                width,
+                label,
+            } => reference::text(buffer, place, *flags, *at, *width, label),
+            _ => unreachable!("only boxes and texts are measured"),
+        });
     }
     black_box(place);
 }

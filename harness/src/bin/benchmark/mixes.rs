@@ -10,8 +10,8 @@ pub struct Mix {
     pub bytes: Vec<u8>,
 }
 
-/// Files of about `size` bytes each, known records in normal form or nearly so.
-pub fn all(size: usize) -> Vec<Mix> {
+/// Files of about `size` bytes each, those whose names hold the word.
+pub fn all(size: usize, word: &str) -> Vec<Mix> {
     let mut rng = Rng::new(2026);
     let kinds: [(&str, fn(&mut Rng) -> Loose); 6] = [
         ("boxes, 4,095 a record", |rng| boxes(rng, 4_095)),
@@ -29,6 +29,7 @@ pub fn all(size: usize) -> Vec<Mix> {
     ];
     kinds
         .into_iter()
+        .filter(|(name, _)| name.contains(word))
         .map(|(name, record)| Mix {
             name,
             bytes: file(&mut rng, size, record),
@@ -133,8 +134,8 @@ pub fn opening_calls() -> [Call; 3] {
     ]
 }
 
-/// Calls that write about `size` bytes.
-pub fn writer_calls(size: usize) -> Vec<(&'static str, Vec<Call>)> {
+/// Calls that write about `size` bytes, those whose names hold the word.
+pub fn writer_calls(size: usize, word: &str) -> Vec<(&'static str, Vec<Call>)> {
     let mut rng = Rng::new(2026);
     let boxes = |count: usize, rng: &mut Rng| Call::Boxes {
         sides: values::box_sides(rng, count),
@@ -152,10 +153,12 @@ pub fn writer_calls(size: usize) -> Vec<(&'static str, Vec<Call>)> {
         calls.extend((1..count).map(|_| make(&mut rng)));
         calls
     };
-    vec![
+    let mut workloads = vec![
         ("boxes, 4,095 a call", fill(&|rng| boxes(4_095, rng))),
         ("boxes, one a call", fill(&|rng| boxes(1, rng))),
         ("texts of 20,000 bytes", fill(&|rng| text(20_000, rng))),
         ("texts of 12 bytes", fill(&|rng| text(12, rng))),
-    ]
+    ];
+    workloads.retain(|(name, _)| name.contains(word));
+    workloads
 }
