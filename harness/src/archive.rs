@@ -2,15 +2,17 @@
 //!
 //! Every function takes and answers what its namesake in [`crate::reference`]
 //! does, so that the two can be compared. This is the only place with unsafe
-//! code: each call passes the pointer and the length of a slice that outlives
-//! it, which is all the archive asks of its caller.
+//! code beside the plain C's: each call passes the pointer and the length of a
+//! slice that outlives it, which is all the archive asks of its caller.
 
 #![allow(unsafe_code)]
 
 mod exports;
+mod fence;
 mod plain;
 
 use exports::*;
+pub use fence::Fence;
 #[cfg(feature = "sref")]
 use plain::Grid;
 use plain::{PlainAnswer, PlainDataType, PlainEight, PlainLayerNo, Point};

@@ -3,8 +3,9 @@
 //! `differential --count N --seed S` runs the fixed cases and then N random
 //! ones. Random case I depends on S and I alone: `--from I --count 1` makes it
 //! again by itself. The last line is `N passed, M failed`, where a case is one
-//! file or one sequence of writer calls with all that is asked of it, and a
-//! refusal number from 1 to 16 that was never given counts as failed.
+//! file or one sequence of writer calls with all that is asked of it. In a run
+//! with the fixed cases, a refusal number from 1 to 16 that was never given
+//! counts as failed.
 
 use std::process::ExitCode;
 
@@ -13,7 +14,7 @@ use cgx_harness::generate::{self, Call, Drawing, Rng};
 
 const USAGE: &str = "usage: differential [--count N] [--seed S] [--from I]";
 /// About a minute on one core.
-const QUICK_COUNT: u64 = 100_000;
+const QUICK_COUNT: u64 = 200_000;
 
 struct Options {
     count: u64,
@@ -29,7 +30,7 @@ fn main() -> ExitCode {
     };
     let Options { count, seed, from } = options;
     println!("differential: {count} random cases from {from}, seed {seed}");
-    let mut report = Report::default();
+    let mut report = Report::new(from == 0);
     if from == 0 {
         fixed_cases(&mut report);
     }
@@ -80,8 +81,8 @@ fn limits(report: &mut Report) {
 fn boundaries(report: &mut Report) {
     for aimed in generate::boundary_cases() {
         let kind = "file at a boundary";
-        report.case(kind, aimed.what, &aimed.bytes, |case| {
-            compare::whole_file(case, &aimed.bytes, &mut Rng::new(1));
+        report.case(kind, aimed.what, &aimed.bytes, |case, file| {
+            compare::whole_file(case, file, &mut Rng::new(1));
             compare::aimed_verdict(case, &aimed);
         });
     }
@@ -97,29 +98,27 @@ fn cuts(report: &mut Report) {
             continue;
         }
         for cut in generate::truncations(&file) {
-            report.case("file cut at every byte", "fixed", cut, |case| {
-                compare::cut_file(case, cut);
-            });
+            report.case("file cut at every byte", "fixed", cut, compare::cut_file);
         }
     }
 }
 
 fn aimed_calls(report: &mut Report) {
     for bad in generate::bad_calls() {
-        report.case("call that is refused", bad.what, &[], |case| {
+        report.case("call that is refused", bad.what, &[], |case, _| {
             compare::aimed_call(case, &bad);
         });
     }
     for calls in generate::longest_calls() {
         let room = 4 + calls.iter().map(Call::size).sum::<usize>();
         for room in [room, room - 1, room + 9] {
-            report.case("longest calls", "fixed", &[], |case| {
+            report.case("longest calls", "fixed", &[], |case, _| {
                 compare::calls(case, &calls, room);
             });
         }
     }
     for room in 0..8 {
-        report.case("start of a writer", "fixed", &[], |case| {
+        report.case("start of a writer", "fixed", &[], |case, _| {
             compare::calls(case, &[], room);
         });
     }
@@ -162,8 +161,8 @@ fn random_case(report: &mut Report, seed: u64, index: u64) {
         7 => {
             let question = generate::layer_question(rng);
             let kind = "layer in any bytes";
-            report.case(kind, &origin, &question.bytes, |case| {
-                compare::layer_question(case, &question, rng);
+            report.case(kind, &origin, &question.bytes, |case, bytes| {
+                compare::layer_question(case, bytes, &question, rng);
             });
         }
         8 => good_calls(report, &origin, rng),
@@ -171,31 +170,31 @@ fn random_case(report: &mut Report, seed: u64, index: u64) {
         10 => calls_at_places(report, &origin, rng),
         _ => {
             let file = generate::valid(rng).bytes();
-            report.case("made-up lists and texts", &origin, &file, |case| {
-                compare::made_up_lists(case, &file, rng);
+            report.case("made-up lists and texts", &origin, &file, |case, file| {
+                compare::made_up_lists(case, file, rng);
             });
         }
     }
 }
 
 fn whole_file(report: &mut Report, kind: &'static str, origin: &str, file: &[u8], seed: u64) {
-    report.case(kind, origin, file, |case| {
+    report.case(kind, origin, file, |case, file| {
         compare::whole_file(case, file, &mut Rng::new(seed));
     });
 }
 
 fn damaged(report: &mut Report, origin: &str, rng: &mut Rng) {
     let aimed = generate::damaged(rng);
-    report.case("damaged file", origin, &aimed.bytes, |case| {
-        compare::whole_file(case, &aimed.bytes, rng);
+    report.case("damaged file", origin, &aimed.bytes, |case, file| {
+        compare::whole_file(case, file, rng);
         compare::aimed_verdict(case, &aimed);
     });
 }
 
 fn pair(report: &mut Report, kind: &'static str, origin: &str, one: &Drawing, other: &Drawing) {
     let (one, other) = (one.bytes(), other.bytes());
-    report.case(kind, origin, &[&one[..], &other].concat(), |case| {
-        compare::pair(case, &one, &other);
+    report.case(kind, origin, &[&one[..], &other].concat(), |case, both| {
+        compare::pair(case, &both[..one.len()], &both[one.len()..]);
     });
 }
 
@@ -208,8 +207,8 @@ fn places(report: &mut Report, origin: &str, rng: &mut Rng) {
     }
     let mut offsets = drawing.offsets();
     offsets.retain(|&offset| offset <= file.len());
-    report.case("made-up places", origin, &file, |case| {
-        compare::made_up_places(case, &file, &offsets, rng);
+    report.case("made-up places", origin, &file, |case, file| {
+        compare::made_up_places(case, file, &offsets, rng);
     });
 }
 
@@ -217,7 +216,7 @@ fn good_calls(report: &mut Report, origin: &str, rng: &mut Rng) {
     let calls = generate::good_calls(rng);
     let size = 4 + calls.iter().map(Call::size).sum::<usize>();
     let room = rng.pick(&[size, size - 1, size + 9]);
-    report.case("good calls", origin, &[], |case| {
+    report.case("good calls", origin, &[], |case, _| {
         compare::calls(case, &calls, room);
     });
 }
@@ -225,7 +224,7 @@ fn good_calls(report: &mut Report, origin: &str, rng: &mut Rng) {
 fn any_calls(report: &mut Report, origin: &str, rng: &mut Rng) {
     let calls = generate::any_calls(rng);
     let room = rng.pick(&[4, 5, 60, 100, 200, 1_000, 70_000]);
-    report.case("calls in any order", origin, &[], |case| {
+    report.case("calls in any order", origin, &[], |case, _| {
         compare::calls(case, &calls, room);
     });
 }
@@ -233,7 +232,7 @@ fn any_calls(report: &mut Report, origin: &str, rng: &mut Rng) {
 fn calls_at_places(report: &mut Report, origin: &str, rng: &mut Rng) {
     let calls = generate::any_calls(rng);
     let room = rng.pick(&[0, 3, 4, 5, 60, 200, 500]);
-    report.case("calls at made-up places", origin, &[], |case| {
+    report.case("calls at made-up places", origin, &[], |case, _| {
         compare::calls_at_made_up_places(case, &calls, room, rng);
     });
 }

@@ -46,12 +46,12 @@ fn layer(case: &mut Case, file: &[u8], offset: usize) {
 }
 
 /// A question whose answer is known beforehand, and all other offsets.
-pub fn layer_question(case: &mut Case, question: &LayerQuestion, rng: &mut Rng) {
-    layers(case, &question.bytes, rng);
+pub fn layer_question(case: &mut Case, bytes: &[u8], question: &LayerQuestion, rng: &mut Rng) {
+    layers(case, bytes, rng);
     case.same(
         || format!("{} at {}", question.what, question.offset),
         &question.good,
-        &archive::good_layer(&question.bytes, question.offset).is_ok(),
+        &archive::good_layer(bytes, question.offset).is_ok(),
     );
 }
 

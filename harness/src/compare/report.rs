@@ -3,89 +3,112 @@
 use std::collections::BTreeMap;
 use std::fmt::{Debug, Write};
 
+use crate::archive::Fence;
 use crate::reference::Refusal;
 
-/// How many differences are told in full.
-const MOST_TOLD: usize = 20;
+/// How many differing cases are told in full.
+const MOST_TOLD: u64 = 20;
 /// How many bytes of an input are printed.
 const MOST_PRINTED: usize = 4_096;
+/// Room for most inputs.
+const ROOM: usize = 1 << 20;
 
-#[derive(Default)]
 pub struct Report {
+    whole: bool,
+    /// Holds the input of the case under way.
+    fence: Fence,
     /// Passed and failed cases by their kind.
     cases: BTreeMap<&'static str, [u64; 2]>,
-    /// Answers with each refusal number; index 0 counts those without one.
+    answers: Answers,
+}
+
+/// Single answers that were compared.
+#[derive(Default)]
+struct Answers {
+    all: u64,
+    /// By refusal number; index 0 counts those without one.
     numbers: [u64; 17],
-    /// Single answers compared.
-    answers: u64,
     /// Writer calls left to the reference, since the archive has no such call.
     not_exported: u64,
-    told: Vec<String>,
 }
 
 /// A case under way.
 pub struct Case<'a> {
-    report: &'a mut Report,
+    answers: &'a mut Answers,
     differences: Vec<String>,
 }
 
 impl Report {
-    /// Runs one case. `origin` says how to make it again, `input` is its bytes.
+    /// Of a whole run, in which every refusal number must be seen, or of part
+    /// of one.
+    pub fn new(whole: bool) -> Report {
+        Report {
+            whole,
+            fence: Fence::new(ROOM),
+            cases: BTreeMap::new(),
+            answers: Answers::default(),
+        }
+    }
+
+    /// Runs one case. `origin` says how to make it again, `input` is its bytes,
+    /// which `compare` is handed with nothing readable behind them.
     pub fn case(
         &mut self,
         kind: &'static str,
         origin: &str,
         input: &[u8],
-        compare: impl FnOnce(&mut Case),
+        compare: impl FnOnce(&mut Case, &[u8]),
     ) {
         let mut case = Case {
-            report: self,
+            answers: &mut self.answers,
             differences: Vec::new(),
         };
-        compare(&mut case);
+        compare(&mut case, self.fence.hold(input));
         let differences = case.differences;
-        let failed = !differences.is_empty();
-        self.cases.entry(kind).or_default()[usize::from(failed)] += 1;
-        if failed && self.told.len() < MOST_TOLD {
-            let told = format!(
-                "{kind}, {origin}\n  input: {}\n  {}",
-                hex(input),
-                differences.join("\n  ")
-            );
-            println!("{told}");
-            self.told.push(told);
+        if !differences.is_empty() && self.failed_cases() < MOST_TOLD {
+            println!("{kind}, {origin}\n  input: {}", hex(input));
+            println!("  {}", differences.join("\n  "));
         }
+        let failed = usize::from(!differences.is_empty());
+        self.cases.entry(kind).or_default()[failed] += 1;
     }
 
     pub fn passed(&self) -> u64 {
         self.cases.values().map(|[passed, _]| passed).sum()
     }
 
-    /// Failed cases, and one for each refusal number that was never given.
+    /// Failed cases, and one for each refusal number that a whole run never saw.
     pub fn failed(&self) -> u64 {
-        let cases: u64 = self.cases.values().map(|[_, failed]| failed).sum();
-        cases + self.numbers_never_seen().count() as u64
+        self.failed_cases() + self.numbers_never_seen().count() as u64
+    }
+
+    fn failed_cases(&self) -> u64 {
+        self.cases.values().map(|[_, failed]| failed).sum()
     }
 
     fn numbers_never_seen(&self) -> impl Iterator<Item = usize> + '_ {
-        (1..=16).filter(|&number| self.numbers[number] == 0)
+        (1..=16).filter(|&number| self.whole && self.answers.numbers[number] == 0)
     }
 
     /// All counts, without the last line.
     pub fn summary(&self) -> String {
+        let Answers {
+            all,
+            numbers,
+            not_exported,
+        } = self.answers;
         let mut lines = vec!["cases by kind (passed, failed)".to_string()];
         lines.extend(
             self.cases
                 .iter()
                 .map(|(kind, [passed, failed])| format!("{passed:>10} {failed:>6}  {kind}")),
         );
-        lines.push(format!("{:>10} answers compared", self.answers));
-        lines.push(format!("{:>10} without a refusal", self.numbers[0]));
-        lines.extend((1..=16).map(|i| format!("{:>10} refused {i}", self.numbers[i])));
-        if self.not_exported > 0 {
+        lines.push(format!("{all:>10} answers compared"));
+        lines.push(format!("{:>10} without a refusal", numbers[0]));
+        lines.extend((1..=16).map(|i| format!("{:>10} refused {i}", numbers[i])));
+        if not_exported > 0 {
             lines.push(format!(
-                "{:>10} SREF calls left out: the archive was linked without cgx_write_sref",
-                self.not_exported
+                "{not_exported:>10} SREF calls left out: built without the feature sref"
             ));
         }
         lines.extend(
@@ -122,7 +145,7 @@ impl Case<'_> {
 
     /// Counts an answer and notes it down where it is not as it must be.
     pub fn holds(&mut self, holds: bool, told: impl FnOnce() -> String) {
-        self.report.answers += 1;
+        self.answers.all += 1;
         if !holds {
             self.differences.push(told());
         }
@@ -130,7 +153,7 @@ impl Case<'_> {
 
     /// Counts the number an answer was refused with.
     pub fn number(&mut self, number: u8) {
-        self.report.numbers[usize::from(number)] += 1;
+        self.answers.numbers[usize::from(number)] += 1;
     }
 
     pub fn outcome<T>(&mut self, answer: &Result<T, Refusal>) {
@@ -138,7 +161,7 @@ impl Case<'_> {
     }
 
     pub fn not_exported(&mut self) {
-        self.report.not_exported += 1;
+        self.answers.not_exported += 1;
     }
 }
 

@@ -1,6 +1,6 @@
 //! Runs the reference over generated cases and counts them.
 //!
-//! `cgx-harness --count N --seed S` makes N random cases of each kind beside
+//! `self_check --count N --seed S` makes N random cases of each kind beside
 //! the fixed ones, prints how many cases of each kind there were and how often
 //! each refusal number was seen, and fails if any answer was not the one aimed at.
 
@@ -11,7 +11,7 @@ use cgx_harness::drive::{make, make_all};
 use cgx_harness::generate::{self, Call, Drawing, Rng};
 use cgx_harness::reference::*;
 
-const USAGE: &str = "usage: cgx-harness [--count N] [--seed S]";
+const USAGE: &str = "usage: self_check [--count N] [--seed S]";
 
 fn main() -> ExitCode {
     let Some((count, seed)) = options(std::env::args().skip(1)) else {
