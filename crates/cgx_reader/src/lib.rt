@@ -37,6 +37,15 @@ impl<'a> Reader<'a> {
     }
 }
 
+// One step, by a reader made for it.
+pub fn read_next(file: &[u8], place: Place) -> Outcome
+    ensures { λ r. ⌜ StepMade (now (file .entry)) place r ⌝ }
+{
+    Reader::new(file, place).peek()
+}
+
+// ---- what `next` does with the plain bytes and place
+
 // What a step answers, and the place after it.
 struct Moved {
     outcome: Outcome,
@@ -66,11 +75,4 @@ fn left_at(place: Place, o: Outcome) -> Place
             place: _,
         } => place,
     }
-}
-
-// One step, by a reader made for it.
-pub fn read_next(file: &[u8], place: Place) -> Outcome
-    ensures { λ r. ⌜ StepMade (now (file .entry)) place r ⌝ }
-{
-    Reader::new(file, place).peek()
 }

@@ -52,7 +52,7 @@ shared-slice-read-t : tie.Need-shared-slice-read-t Inv-loop μ-loop
 shared-slice-read-t c = let t = c .before .before .before .before in let l = t .before .loop in let s = t .before .before .before .before .before in let h = held (s .args .file .now) (l .c) (l .at) (t .step-at .ensures) (c .before .before .found2 .given .1) in let a = h .least in let i = h .inside in omega arith
 
 put-record-requires : tie.Need-put-record-requires Inv-loop μ-loop
-put-record-requires c κs = let t = c .before .before .before .before .before in let l = t .before .loop in let s = t .before .before .before .before .before in line-room (s .args .file .now) (l .c) (l .at) (s .args .out .now) (l .out) (l .to) (l .inv .2) (omega (arith, l .inv .0, s .pre .1)) (s .pre .2) (kindOf (getD (s .args .file .now) (l .at + 2) 0))
+put-record-requires c κs = let t = c .before .before .before .before .before in let l = t .before .loop in let s = t .before .before .before .before .before in omega (arith, line-room (s .args .file .now) (l .c) (l .at) (s .args .out .now) (l .out) (l .to) (l .inv .2) (omega (arith, l .inv .0, s .pre .1)) (s .pre .2) (kindOf (getD (s .args .file .now) (l .at + 2) 0)))
 
 context-after-requires : tie.Need-context-after-requires Inv-loop μ-loop
 context-after-requires c κs = let t = c .before .before .before .before .before .before .before .before in let l = t .before .loop in let s = t .before .before .before .before .before in let h = held (s .args .file .now) (l .c) (l .at) (t .step-at .ensures) (c .before .before .before .before .before .before .found2 .given .1) in let a = h .least in let i = h .inside in omega arith
