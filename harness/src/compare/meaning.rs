@@ -5,15 +5,11 @@ use crate::archive;
 use crate::reference::{self, Refusal};
 
 pub fn pair(case: &mut Case, file: &[u8], other: &[u8]) {
-    let alike = reference::same_meaning(file, other).expect("both files are good");
-    let forms_alike = form(file) == form(other);
+    let one_form = form(file).and_then(|form_of_one| Ok(form_of_one == form(other)?));
     case.same(
-        || {
-            "whether the two mean the same, and whether the archive gives one normal form"
-                .to_string()
-        },
-        &alike,
-        &forms_alike,
+        || "whether the two mean the same, and whether they have one normal form".to_string(),
+        &reference::same_meaning(file, other),
+        &one_form,
     );
 }
 

@@ -96,8 +96,7 @@ pub fn calls(case: &mut Case, calls: &[Call], room: usize) {
         desk.make(case, call);
     }
     let end = desk.place.offset;
-    let written = &desk.archive.part()[..end].to_vec();
-    files::cut_file(case, written);
+    files::cut_file(case, &desk.archive.part()[..end]);
 }
 
 fn try_rooms(case: &mut Case, desk: &Desk, call: &Call, room: usize) {
@@ -142,7 +141,7 @@ pub fn calls_at_made_up_places(case: &mut Case, calls: &[Call], room: usize, rng
         if room >= 4 {
             desk.place = passing_place(rng, room, &[]);
             desk.make(case, call);
-            walk::step(case, &desk.archive.part().to_vec(), desk.place);
+            walk::step(case, desk.archive.part(), desk.place);
         }
     }
 }

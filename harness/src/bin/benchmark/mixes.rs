@@ -5,6 +5,8 @@ use cgx_harness::generate::valid::{random_record, unknown_record};
 use cgx_harness::generate::{values, Call, Rng};
 use cgx_harness::reference::Date;
 
+type MakeRecord = fn(&mut Rng) -> Loose;
+
 pub struct Mix {
     pub name: &'static str,
     pub bytes: Vec<u8>,
@@ -13,7 +15,7 @@ pub struct Mix {
 /// Files of about `size` bytes each, those whose names hold the word.
 pub fn all(size: usize, word: &str) -> Vec<Mix> {
     let mut rng = Rng::new(2026);
-    let kinds: [(&str, fn(&mut Rng) -> Loose); 6] = [
+    let kinds: [(&str, MakeRecord); 6] = [
         ("boxes, 4,095 a record", |rng| boxes(rng, 4_095)),
         ("texts, labels to 60,000 bytes", |rng| {
             let length = rng.between(2_000, 60_000);
@@ -38,7 +40,7 @@ pub fn all(size: usize, word: &str) -> Vec<Mix> {
 }
 
 /// LIBRARY, STRUCT, LAYER, as many records as fill the size, ENDLIB.
-fn file(rng: &mut Rng, size: usize, record: fn(&mut Rng) -> Loose) -> Vec<u8> {
+fn file(rng: &mut Rng, size: usize, record: MakeRecord) -> Vec<u8> {
     let mut bytes = b"cgx\0".to_vec();
     for type_byte in [LIBRARY, STRUCT, LAYER] {
         plain(type_byte).push_to(&mut bytes);
