@@ -13,9 +13,7 @@ mod plain;
 
 use exports::*;
 pub use fence::Fence;
-#[cfg(feature = "sref")]
-use plain::Grid;
-use plain::{PlainAnswer, PlainDataType, PlainEight, PlainLayerNo, Point};
+use plain::{Grid, PlainAnswer, PlainDataType, PlainEight, PlainLayerNo, Point};
 pub use plain::{PlainPlace, PlainStep, PlainView};
 
 use crate::generate::Call;
@@ -87,9 +85,9 @@ pub fn writer_start(buffer: &mut [u8]) -> Result<Place, Refusal> {
     unsafe { cgx_write_start(buffer.as_mut_ptr(), buffer.len()) }.into()
 }
 
-/// Makes one call of the writer; none where the archive does not export it.
-pub fn make(buffer: &mut [u8], place: Place, call: &Call) -> Option<Answer> {
-    make_plain(buffer, place.into(), call).map(Answer::from)
+/// Makes one call of the writer.
+pub fn make(buffer: &mut [u8], place: Place, call: &Call) -> Answer {
+    make_plain(buffer, place.into(), call).into()
 }
 
 /// Writes boxes as C does, for measuring that alone: moves the place, or says
@@ -116,10 +114,10 @@ pub fn text_plain(buffer: &mut [u8], place: &mut PlainPlace, flags: u8, [x, y]: 
 }
 
 #[rustfmt::skip]
-fn make_plain(buffer: &mut [u8], place: PlainPlace, call: &Call) -> Option<PlainAnswer> {
+fn make_plain(buffer: &mut [u8], place: PlainPlace, call: &Call) -> PlainAnswer {
     let (buf, room) = (buffer.as_mut_ptr(), buffer.len());
     let eight = |bytes| PlainEight { bytes };
-    Some(unsafe { match call {
+    unsafe { match call {
         Call::Library { version, units: [munit, uunit], dates: [created, modified], name } =>
             cgx_write_library(
                 buf, room, place, *version, eight(*munit), eight(*uunit),
@@ -146,18 +144,17 @@ fn make_plain(buffer: &mut [u8], place: PlainPlace, call: &Call) -> Option<Plain
             cgx_write_styled_wire(buf, room, place, *style, *width, points.as_ptr(), points.len()),
         Call::Text { flags, place: [x, y], width, label } =>
             cgx_write_text(buf, room, place, *flags, Point { x: *x, y: *y }, *width, label.as_ptr(), label.len()),
-        Call::Sref { placement, name } => return sref(buffer, place, placement, name),
+        Call::Sref { placement, name } => sref(buffer, place, placement, name),
         Call::Endlib => cgx_write_endlib(buf, room, place),
         Call::TestCard(Sides { left, bottom, right, top }) =>
             cgx_write_test_card(buf, room, place, *left, *bottom, *right, *top),
         Call::CaptionFrame(Sides { left, bottom, right, top }, label) =>
             cgx_write_caption_frame(buf, room, place, *left, *bottom, *right, *top, label.as_ptr(), label.len()),
-    } })
+    } }
 }
 
-#[cfg(feature = "sref")]
 #[rustfmt::skip]
-fn sref(buffer: &mut [u8], place: PlainPlace, placement: &Placement, name: &[u8]) -> Option<PlainAnswer> {
+fn sref(buffer: &mut [u8], place: PlainPlace, placement: &Placement, name: &[u8]) -> PlainAnswer {
     let [a, b, c, d] = placement.points;
     let grid = Grid {
         cols: placement.cols,
@@ -167,16 +164,10 @@ fn sref(buffer: &mut [u8], place: PlainPlace, placement: &Placement, name: &[u8]
     };
     let at = Point { x: placement.x, y: placement.y };
     let (angle, magnif) = (PlainEight { bytes: placement.angle }, PlainEight { bytes: placement.magnif });
-    Some(unsafe {
+    unsafe {
         cgx_write_sref(
             buffer.as_mut_ptr(), buffer.len(), place, placement.flags, at, angle, magnif, grid,
             name.as_ptr(), name.len(),
         )
-    })
-}
-
-/// Not exported yet.
-#[cfg(not(feature = "sref"))]
-fn sref(_: &mut [u8], _: PlainPlace, _: &Placement, _: &[u8]) -> Option<PlainAnswer> {
-    None
+    }
 }

@@ -37,7 +37,6 @@ extern "C" {
     pub fn cgx_write_wire(buf: Buffer, room: usize, place: PlainPlace, width: i32, points: Long, count: usize) -> PlainAnswer;
     pub fn cgx_write_styled_wire(buf: Buffer, room: usize, place: PlainPlace, style: u8, width: i32, points: Long, count: usize) -> PlainAnswer;
     pub fn cgx_write_text(buf: Buffer, room: usize, place: PlainPlace, flags: u8, at: Point, width: i32, label: Byte, len: usize) -> PlainAnswer;
-    #[cfg(feature = "sref")]
     pub fn cgx_write_sref(buf: Buffer, room: usize, place: PlainPlace, flags: u8, at: Point, angle: PlainEight, magnif: PlainEight, grid: Grid, name: Byte, len: usize) -> PlainAnswer;
     pub fn cgx_write_endlib(buf: Buffer, room: usize, place: PlainPlace) -> PlainAnswer;
     pub fn cgx_write_test_card(buf: Buffer, room: usize, place: PlainPlace, left: i32, bottom: i32, right: i32, top: i32) -> PlainAnswer;

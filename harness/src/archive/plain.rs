@@ -240,7 +240,6 @@ impl From<PlainArray> for Option<Array> {
 }
 
 /// The array of an SREF as it is given to the writer.
-#[cfg(feature = "sref")]
 #[repr(C)]
 #[derive(Clone, Copy)]
 pub struct Grid {

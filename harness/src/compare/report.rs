@@ -28,8 +28,6 @@ struct Answers {
     all: u64,
     /// By refusal number; index 0 counts those without one.
     numbers: [u64; 17],
-    /// Writer calls left to the reference, since the archive has no such call.
-    not_exported: u64,
 }
 
 /// A case under way.
@@ -92,11 +90,7 @@ impl Report {
 
     /// All counts, without the last line.
     pub fn summary(&self) -> String {
-        let Answers {
-            all,
-            numbers,
-            not_exported,
-        } = self.answers;
+        let Answers { all, numbers } = self.answers;
         let mut lines = vec!["cases by kind (passed, failed)".to_string()];
         lines.extend(
             self.cases
@@ -106,11 +100,6 @@ impl Report {
         lines.push(format!("{all:>10} answers compared"));
         lines.push(format!("{:>10} without a refusal", numbers[0]));
         lines.extend((1..=16).map(|i| format!("{:>10} refused {i}", numbers[i])));
-        if not_exported > 0 {
-            lines.push(format!(
-                "{not_exported:>10} SREF calls left out: built without the feature sref"
-            ));
-        }
         lines.extend(
             self.numbers_never_seen()
                 .map(|number| format!("refusal {number} was never seen")),
@@ -158,10 +147,6 @@ impl Case<'_> {
 
     pub fn outcome<T>(&mut self, answer: &Result<T, Refusal>) {
         self.number(answer.as_ref().map_or_else(|refusal| refusal.number, |_| 0));
-    }
-
-    pub fn not_exported(&mut self) {
-        self.answers.not_exported += 1;
     }
 }
 

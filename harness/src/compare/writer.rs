@@ -49,17 +49,10 @@ impl Desk {
             Answer::Refused { number, place, .. } => (number, place),
         };
         self.place = place;
-        match archive::make(self.archive.part(), given, call) {
-            Some(other) => {
-                case.number(number);
-                case.same(|| told(call, given), &answer, &other);
-                self.same_bytes(case, &told(call, given));
-            }
-            None => {
-                case.not_exported();
-                self.archive = self.reference.clone();
-            }
-        }
+        let other = archive::make(self.archive.part(), given, call);
+        case.number(number);
+        case.same(|| told(call, given), &answer, &other);
+        self.same_bytes(case, &told(call, given));
         answer
     }
 
