@@ -8,10 +8,9 @@
 //     short refused 14                                     the same, with one byte too little room
 //
 // A file whose name begins with `place-` holds a place and then a file; of it one step from that place is printed.
-mod forged;
-mod normal;
-
 use cgx_check::check;
+use cgx_outcomes::forged::show_step;
+use cgx_outcomes::normal::show_normal;
 use cgx_shown::print;
 use cgx_shown::refusal;
 use cgx_shown::show_verdict;
@@ -22,8 +21,6 @@ use cgx_walk::Outcome;
 use cgx_walk::Started;
 use cgx_walk::start;
 use cgx_walk::step;
-use forged::show_step;
-use normal::show_normal;
 
 fn main() {
     let n = os::arg_count();
