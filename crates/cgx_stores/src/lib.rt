@@ -225,8 +225,8 @@ fn put_real_if(buf: &mut [u8], at: usize, stands: bool, real: &[u8; 8]) -> usize
     ensures { λ r. ⌜ (r ≡ at + widthIf stands 8) × (now (buf .exit) ≡ put (now (buf .entry)) at (realIf stands (now (real .entry)))) ⌝ }
 {
     if stands {
-        let normal = normal_bytes(real);
-        put_bytes(buf, at, &normal);
+        let equal = normal_bytes(real);
+        put_bytes(buf, at, &equal);
         return at + 8;
     }
     at
