@@ -1,5 +1,5 @@
 // The rules 9 to 12 of a record's fields, each on the bytes of the field.
-// The two loops have no early exit: they are then vector loops, and a refused file is read once only.
+// The two loops have no early exit: several bytes or boxes can then be taken at a time, and a refused file is read once only.
 ghost use mathlib.Core.Path.{_≡_};
 ghost use mathlib.Core.Bool.{_&&_};
 ghost use Prim.Native.Nat.{_+_, _%_, _≤_};
