@@ -1,6 +1,6 @@
 -- What the answers that pass to C stand for: one definition for each, with the library's own cases. Definitions only.
 use mathlib.Core.Path.{_≡_}
-use mathlib.Core.Bool.{cond}
+use mathlib.Core.Bool.{Bool, true, cond}
 use Prim.Native.Nat.{ℕ, zero, suc}
 use Rattle.cgx_spec.specs.declared.Verdict.{Verdict}
 use Rattle.cgx_spec.specs.declared.Verdict.the-variants.{Accepted, Refused as NotAccepted}
@@ -42,6 +42,10 @@ verdictFrom p = cond (p .accepted) Accepted (NotAccepted (p .number) (p .at))
 
 abbrev pub startedFrom : PlainStart → WalkStarted
 startedFrom p = cond (p .ready) (walk.Ready (placeFrom (p .place))) (walk.Refused (p .number) (p .at .at))
+
+-- A refused start names its offset.
+abbrev pub namesPlace : PlainStart → Bool
+namesPlace p = cond (p .ready) true (p .at .present)
 
 -- By its status.
 abbrev pub stepBy : ℕ → PlainStep → Outcome

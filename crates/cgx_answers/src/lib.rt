@@ -22,7 +22,9 @@ use cgx_walk::Started as WalkStarted;
 use cgx_writing::Answer;
 use cgx_writing::Started;
 ghost use mathlib.Core.Path.{_≡_};
-ghost use Rattle.cgx_answers.specs.Answers.{verdictFrom, startedFrom, outcomeFrom, OfItsKind, boxFrom, pointFrom, madeFrom, shownFrom, extentFrom, begunFrom, answerFrom};
+ghost use mathlib.Core.Bool.{true};
+ghost use Prim.Native.Nat.{_≤_};
+ghost use Rattle.cgx_answers.specs.Answers.{verdictFrom, startedFrom, namesPlace, outcomeFrom, OfItsKind, boxFrom, pointFrom, madeFrom, shownFrom, extentFrom, begunFrom, answerFrom};
 
 #[repr(C)]
 pub struct PlainVerdict {
@@ -121,6 +123,7 @@ pub fn plain_verdict(v: Verdict) -> PlainVerdict
 
 pub fn plain_started(s: WalkStarted) -> PlainStart
     ensures { λ r. ⌜ startedFrom r ≡ s ⌝ }
+    ensures place { λ r. ⌜ namesPlace r ≡ true ⌝ }
 {
     match s {
         WalkStarted::Ready(p) => PlainStart {
@@ -141,6 +144,7 @@ pub fn plain_started(s: WalkStarted) -> PlainStart
 pub fn plain_step(o: Outcome) -> PlainStep
     requires { ⌜ OfItsKind o ⌝ }
     ensures { λ r. ⌜ outcomeFrom r ≡ o ⌝ }
+    ensures numbers { λ r. ⌜ (r .status ≤ 2) × (r .view .kind ≤ 10) ⌝ }
 {
     match o {
         Outcome::Record(v, p) => PlainStep {
@@ -239,6 +243,7 @@ pub fn plain_shown(s: Shown) -> PlainShown
 
 pub fn plain_extent(e: CellExtent) -> PlainExtent
     ensures { λ r. ⌜ extentFrom r ≡ e ⌝ }
+    ensures numbers { λ r. ⌜ r .status ≤ 2 ⌝ }
 {
     match e {
         CellExtent::Refused { number, at } => PlainExtent {

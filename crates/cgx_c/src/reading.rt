@@ -30,6 +30,8 @@ use cgx_plain::places::place_from;
 use cgx_walk::start;
 use cgx_walk::step;
 ghost use mathlib.Core.Path.{_≡_};
+ghost use mathlib.Core.Bool.{true};
+ghost use Prim.Native.Nat.{_≤_};
 ghost use lib.ListN.{length};
 ghost use Rattle.cgx_spec.specs.Files.{verdictOf};
 ghost use Rattle.cgx_walk.specs.Walk.{startOf, StepMade};
@@ -38,7 +40,7 @@ ghost use Rattle.cgx_normal.specs.Made.{madeOf, leftIn};
 ghost use Rattle.cgx_layers.specs.Layers.{layerAnswer, shownOf, ShownIn};
 ghost use Rattle.cgx_extent.specs.Extent.{extentOf};
 ghost use Rattle.cgx_plain.specs.Plain.{placeFrom};
-ghost use Rattle.cgx_answers.specs.Answers.{verdictFrom, startedFrom, outcomeFrom, boxFrom, pointFrom, madeFrom, shownFrom, extentFrom};
+ghost use Rattle.cgx_answers.specs.Answers.{verdictFrom, startedFrom, namesPlace, outcomeFrom, boxFrom, pointFrom, madeFrom, shownFrom, extentFrom};
 
 #[no_mangle]
 pub extern "C" fn cgx_check(file: &[u8]) -> PlainVerdict
@@ -52,6 +54,7 @@ pub extern "C" fn cgx_check(file: &[u8]) -> PlainVerdict
 #[no_mangle]
 pub extern "C" fn cgx_start(file: &[u8]) -> PlainStart
     ensures { λ r. ⌜ startedFrom r ≡ startOf (now (file .entry)) ⌝ }
+    ensures place { λ r. ⌜ namesPlace r ≡ true ⌝ }
 {
     plain_started(start(file))
 }
@@ -59,6 +62,7 @@ pub extern "C" fn cgx_start(file: &[u8]) -> PlainStart
 #[no_mangle]
 pub extern "C" fn cgx_step(file: &[u8], place: PlainPlace) -> PlainStep
     ensures { λ r. ⌜ StepMade (now (file .entry)) (placeFrom place) (outcomeFrom r) ⌝ }
+    ensures numbers { λ r. ⌜ (r .status ≤ 2) × (r .view .kind ≤ 10) ⌝ }
 {
     plain_step(step(file, place_from(place)))
 }
@@ -115,6 +119,7 @@ pub extern "C" fn cgx_layer_name(file: &[u8], at: usize, substitute: &[u8]) -> P
 #[no_mangle]
 pub extern "C" fn cgx_extent(file: &[u8], cell: usize) -> PlainExtent
     ensures { λ r. ⌜ extentFrom r ≡ extentOf (now (file .entry)) cell ⌝ }
+    ensures numbers { λ r. ⌜ r .status ≤ 2 ⌝ }
 {
     plain_extent(extent(file, cell))
 }

@@ -29,6 +29,7 @@ use cgx_spec::Offset;
 use cgx_spec::Real;
 use cgx_spec::Run;
 ghost use mathlib.Core.Path.{_≡_};
+ghost use Prim.Native.Nat.{_≤_};
 ghost use Rattle.cgx_spec.specs.Restated.{typeByte};
 ghost use Rattle.cgx_kinds.specs.Meant.{fieldsKind};
 ghost use Rattle.cgx_plain.specs.Plain.{realFrom, optionalFrom, arrayFrom, fieldsFrom, viewFrom};
@@ -103,6 +104,7 @@ pub struct PlainView {
 pub fn plain_view(v: View) -> PlainView
     requires { ⌜ fieldsKind (v .fields) ≡ v .kind ⌝ }
     ensures { λ r. ⌜ viewFrom r ≡ v ⌝ }
+    ensures kind { λ r. ⌜ r .kind ≤ 10 ⌝ }
 {
     let k = v.kind;
     let flags = v.flags;
@@ -147,6 +149,7 @@ pub fn no_view() -> PlainView
 
 pub fn kind_number(k: Kind) -> u8
     ensures { λ r. ⌜ r ≡ typeByte k ⌝ }
+    ensures known { λ r. ⌜ r ≤ 10 ⌝ }
 {
     match k {
         Kind::Library => 0,

@@ -2,6 +2,7 @@
 use mathlib.Core.Path.{sym, ap, _∙_}
 use Rattle.cgx_spec.specs.declared.Offset.{Offset}
 use Rattle.cgx_extent.specs.declared.CellExtent.the-variants.{Refused, Found}
+use native.Mathlib.Omega.{arith}
 use borrow.Author.Needs.{needs}
 use Rattle.cgx_answers.proofs.plain_extent.Statement.{statement}
 use Rattle.cgx_answers.proofs.plain_extent.Tie as tie
@@ -34,13 +35,13 @@ plain-offset-requires-3 : tie.Need-plain-offset-requires-3
 plain-offset-requires-3 c κs = search needs
 
 returns : tie.Need-returns
-returns c = ap (λ (o : Offset). Refused (c .before .before .before .e .given .0 .0) o) (c .before .plain-offset .ensures) ∙ sym (c .before .before .before .e .given .1)
+returns c = (ap (λ (o : Offset). Refused (c .before .before .before .e .given .0 .0) o) (c .before .plain-offset .ensures) ∙ sym (c .before .before .before .e .given .1), omega arith)
 
 returns-2 : tie.Need-returns-2
 returns-2 c = search needs
 
 returns-3 : tie.Need-returns-3
-returns-3 c = ap Found (sym (c .before .before .shape .given .1)) ∙ sym (c .before .before .before .before .before .e2 .given .1)
+returns-3 c = (ap Found (sym (c .before .before .shape .given .1)) ∙ sym (c .before .before .before .before .before .e2 .given .1), omega arith)
 
 pub plain-extent-spec : {M : Type 1} → statement M
 plain-extent-spec =

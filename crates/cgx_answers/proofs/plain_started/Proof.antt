@@ -1,5 +1,5 @@
 -- By cases.
-use mathlib.Core.Path.{sym, ap, _∙_}
+use mathlib.Core.Path.{refl, sym, ap, _∙_}
 use Rattle.cgx_walk.specs.declared.Started.the-variants.{Ready}
 use borrow.Author.Needs.{needs}
 use Rattle.cgx_answers.proofs.plain_started.Statement.{statement}
@@ -21,10 +21,10 @@ no-place-requires : tie.Need-no-place-requires
 no-place-requires c κs = search needs
 
 returns : tie.Need-returns
-returns c = ap Ready (c .plain-place .ensures) ∙ sym (c .before .before .before .s .given .1)
+returns c = (ap Ready (c .plain-place .ensures) ∙ sym (c .before .before .before .s .given .1), refl)
 
 returns-2 : tie.Need-returns-2
-returns-2 c = sym (c .before .before .s2 .given .1)
+returns-2 c = (sym (c .before .before .s2 .given .1), refl)
 
 pub plain-started-spec : {M : Type 1} → statement M
 plain-started-spec =

@@ -4,6 +4,7 @@ use Rattle.cgx_spec.specs.declared.Offset.{Offset}
 use Rattle.cgx_spec.specs.declared.Place.{Place}
 use Rattle.cgx_walk.specs.declared.Outcome.the-variants.{Record, Refused}
 use Rattle.cgx_answers.specs.Answers.{OfItsKind}
+use native.Mathlib.Omega.{arith}
 use borrow.Author.Needs.{needs}
 use Rattle.cgx_answers.proofs.plain_step.Statement.{statement}
 use Rattle.cgx_answers.proofs.plain_step.Tie as tie
@@ -45,13 +46,13 @@ no-view-requires-2 : tie.Need-no-view-requires-2
 no-view-requires-2 c κs = search needs
 
 returns : tie.Need-returns
-returns c = ap₂ Record (c .plain-view .ensures) (c .before .plain-place .ensures) ∙ sym (c .before .before .before .before .o .given .1)
+returns c = (ap₂ Record (c .plain-view .ensures .0) (c .before .plain-place .ensures) ∙ sym (c .before .before .before .before .o .given .1), (omega arith, c .plain-view .ensures .1))
 
 returns-2 : tie.Need-returns-2
-returns-2 c = search needs
+returns-2 c = (sym (c .before .before .before .enum-told .given .1), (omega arith, omega arith))
 
 returns-3 : tie.Need-returns-3
-returns-3 c = ap₂ (λ (o : Offset) (p : Place). Refused (c .before .before .before .before .o2 .given .0 .0) o p) (c .before .before .plain-offset3 .ensures) (c .before .plain-place2 .ensures) ∙ sym (c .before .before .before .before .o2 .given .1)
+returns-3 c = (ap₂ (λ (o : Offset) (p : Place). Refused (c .before .before .before .before .o2 .given .0 .0) o p) (c .before .before .plain-offset3 .ensures) (c .before .plain-place2 .ensures) ∙ sym (c .before .before .before .before .o2 .given .1), (omega arith, omega arith))
 
 pub plain-step-spec : {M : Type 1} → statement M
 plain-step-spec =

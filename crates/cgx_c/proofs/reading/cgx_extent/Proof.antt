@@ -11,7 +11,7 @@ plain-extent-requires : tie.Need-plain-extent-requires
 plain-extent-requires c κs = search needs
 
 returns : tie.Need-returns
-returns c = c .plain-extent .ensures ∙ c .before .extent .ensures
+returns c = (c .plain-extent .ensures .0 ∙ c .before .extent .ensures, c .plain-extent .ensures .1)
 
 pub cgx-extent-spec : {M : Type 1} → statement M
 cgx-extent-spec = tie.close (tie.spec extent-requires plain-extent-requires returns)

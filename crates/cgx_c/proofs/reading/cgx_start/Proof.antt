@@ -11,7 +11,7 @@ plain-started-requires : tie.Need-plain-started-requires
 plain-started-requires c κs = search needs
 
 returns : tie.Need-returns
-returns c = c .plain-started .ensures ∙ c .before .start .ensures
+returns c = (c .plain-started .ensures .0 ∙ c .before .start .ensures, c .plain-started .ensures .1)
 
 pub cgx-start-spec : {M : Type 1} → statement M
 cgx-start-spec = tie.close (tie.spec start-requires plain-started-requires returns)

@@ -21,7 +21,7 @@ plain-step-requires c κs = of-its-kind (c .before .before .before .args .file .
 returns : tie.Need-returns
 returns c = let f = c .before .before .before .before .args .file .now in
     let made = subst (λ (p : Place). StepMade f p (c .before .step .result)) (c .before .before .place-from .ensures) (c .before .step .ensures) in
-    subst (λ (o : Outcome). StepMade f (placeFrom (c .before .before .before .before .args .place)) o) (sym (c .plain-step .ensures)) made
+    (subst (λ (o : Outcome). StepMade f (placeFrom (c .before .before .before .before .args .place)) o) (sym (c .plain-step .ensures .0)) made, c .plain-step .ensures .1)
 
 pub cgx-step-spec : {M : Type 1} → statement M
 cgx-step-spec = tie.close (tie.spec place-from-requires step-requires plain-step-requires returns)

@@ -1,6 +1,7 @@
 -- By cases.
 use Rattle.cgx_spec.specs.Restated.{typeByte}
 use mathlib.Core.Path.{refl}
+use native.Mathlib.Omega.{arith}
 use borrow.Author.Needs.{needs}
 use Rattle.cgx_plain.proofs.fields.kind_number.Statement.{statement}
 use Rattle.cgx_plain.proofs.fields.kind_number.Tie as tie
@@ -40,47 +41,47 @@ enum-told-11 c = search needs
 
 returns : tie.Need-returns
 unfolding typeByte
-returns c = rw (c .enum-told .given .1) refl
+returns c = (rw (c .enum-told .given .1) refl, omega arith)
 
 returns-2 : tie.Need-returns-2
 unfolding typeByte
-returns-2 c = rw (c .enum-told2 .given .1) refl
+returns-2 c = (rw (c .enum-told2 .given .1) refl, omega arith)
 
 returns-3 : tie.Need-returns-3
 unfolding typeByte
-returns-3 c = rw (c .enum-told3 .given .1) refl
+returns-3 c = (rw (c .enum-told3 .given .1) refl, omega arith)
 
 returns-4 : tie.Need-returns-4
 unfolding typeByte
-returns-4 c = rw (c .enum-told4 .given .1) refl
+returns-4 c = (rw (c .enum-told4 .given .1) refl, omega arith)
 
 returns-5 : tie.Need-returns-5
 unfolding typeByte
-returns-5 c = rw (c .enum-told5 .given .1) refl
+returns-5 c = (rw (c .enum-told5 .given .1) refl, omega arith)
 
 returns-6 : tie.Need-returns-6
 unfolding typeByte
-returns-6 c = rw (c .enum-told6 .given .1) refl
+returns-6 c = (rw (c .enum-told6 .given .1) refl, omega arith)
 
 returns-7 : tie.Need-returns-7
 unfolding typeByte
-returns-7 c = rw (c .enum-told7 .given .1) refl
+returns-7 c = (rw (c .enum-told7 .given .1) refl, omega arith)
 
 returns-8 : tie.Need-returns-8
 unfolding typeByte
-returns-8 c = rw (c .enum-told8 .given .1) refl
+returns-8 c = (rw (c .enum-told8 .given .1) refl, omega arith)
 
 returns-9 : tie.Need-returns-9
 unfolding typeByte
-returns-9 c = rw (c .enum-told9 .given .1) refl
+returns-9 c = (rw (c .enum-told9 .given .1) refl, omega arith)
 
 returns-10 : tie.Need-returns-10
 unfolding typeByte
-returns-10 c = rw (c .enum-told10 .given .1) refl
+returns-10 c = (rw (c .enum-told10 .given .1) refl, omega arith)
 
 returns-11 : tie.Need-returns-11
 unfolding typeByte
-returns-11 c = rw (c .enum-told11 .given .1) refl
+returns-11 c = (rw (c .enum-told11 .given .1) refl, omega arith)
 
 pub kind-number-spec : {M : Type 1} → statement M
 kind-number-spec =

@@ -20,7 +20,7 @@ plain-fields-requires : tie.Need-plain-fields-requires
 plain-fields-requires c κs = search needs
 
 returns : tie.Need-returns
-returns c = view-is (c .before .before .before .before .before .args .v) (c .before .before .before .before .kind-number .result) (c .plain-fields .result) (c .before .before .before .plain-offset .result) (c .before .before .plain-offset2 .result) (c .before .plain-run .result) (c .before .before .before .before .before .pre) (c .before .before .before .before .kind-number .ensures) (c .plain-fields .ensures) (c .before .before .before .plain-offset .ensures) (c .before .before .plain-offset2 .ensures) (c .before .plain-run .ensures)
+returns c = (view-is (c .before .before .before .before .before .args .v) (c .before .before .before .before .kind-number .result) (c .plain-fields .result) (c .before .before .before .plain-offset .result) (c .before .before .plain-offset2 .result) (c .before .plain-run .result) (c .before .before .before .before .before .pre) (c .before .before .before .before .kind-number .ensures .0) (c .plain-fields .ensures) (c .before .before .before .plain-offset .ensures) (c .before .before .plain-offset2 .ensures) (c .before .plain-run .ensures), c .before .before .before .before .kind-number .ensures .1)
 
 pub plain-view-spec : {M : Type 1} → statement M
 plain-view-spec =
