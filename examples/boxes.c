@@ -7,10 +7,12 @@ int main(void) {
     size_t size = fread(file, 1, sizeof file, stdin), boxes = 0;
     cgx_start_answer start = cgx_start(file, size);
     if (!start.ready) return 1;
-    cgx_step_answer step = cgx_step(file, size, start.place);
+    cgx_place place = start.place;
+    cgx_view view;
+    cgx_step_answer step = cgx_step(file, size, &place, &view);
     while (step.status == CGX_STEP_RECORD) {
-        if (step.view.kind == CGX_BOX) boxes += step.view.fields.list.count;
-        step = cgx_step(file, size, step.place);
+        if (view.kind == CGX_BOX) boxes += view.fields.box.boxes.count;
+        step = cgx_step(file, size, &place, &view);
     }
     if (step.status == CGX_STEP_REFUSED) {
         printf("refused %u at %zu\n", step.number, step.at.at);

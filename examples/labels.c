@@ -52,7 +52,9 @@ static void print_layer(const drawing *d, size_t at, const char *substitute, siz
 
 static int print_labels(const drawing *d) {
     cgx_start_answer start = cgx_start(d->bytes, d->size);
+    cgx_place place = start.place;
     cgx_step_answer step;
+    cgx_view view;
     cgx_text cell = {0, 0};
     char numbers[16] = "";
     int len = 0;
@@ -60,23 +62,25 @@ static int print_labels(const drawing *d) {
         fprintf(stderr, "refused %u at %zu\n", (unsigned)start.number, start.at.at);
         return 1;
     }
-    step = cgx_step(d->bytes, d->size, start.place);
+    step = cgx_step(d->bytes, d->size, &place, &view);
     while (step.status == CGX_STEP_RECORD) {
-        const cgx_fields *f = &step.view.fields;
-        switch (step.view.kind) {
-        case CGX_STRUCT: cell = f->text; break;
-        case CGX_LAYER: len = snprintf(numbers, sizeof numbers, "%d/%d", f->layer.number, f->datatype.number); break;
+        const cgx_fields *f = &view.fields;
+        switch (view.kind) {
+        case CGX_STRUCT: cell = f->structure.name; break;
+        case CGX_LAYER:
+            len = snprintf(numbers, sizeof numbers, "%d/%d", f->layer.number.number, f->layer.datatype.number);
+            break;
         case CGX_TEXT:
             print_text(d, cell);
             putchar('\t');
-            print_layer(d, step.view.layer.at, numbers, (size_t)len);
+            print_layer(d, view.layer.at, numbers, (size_t)len);
             putchar('\t');
-            print_text(d, f->text);
+            print_text(d, f->text.label);
             putchar('\n');
             break;
         default: break;
         }
-        step = cgx_step(d->bytes, d->size, step.place);
+        step = cgx_step(d->bytes, d->size, &place, &view);
     }
     fflush(stdout);
     if (step.status == CGX_STEP_DONE) return 0;

@@ -11,10 +11,12 @@ mod exports;
 mod fence;
 mod plain;
 
+use std::mem::MaybeUninit;
+
 use exports::*;
 pub use fence::Fence;
-use plain::{Grid, PlainAnswer, PlainDataType, PlainEight, PlainLayerNo, Point};
-pub use plain::{PlainPlace, PlainStep, PlainView};
+use plain::{Grid, Lent, PlainAnswer, PlainDataType, PlainEight, PlainLayerNo, Point};
+pub use plain::{PlainPlace, PlainView};
 
 use crate::generate::Call;
 use crate::reference::{
@@ -30,13 +32,16 @@ pub fn start(file: &[u8]) -> Result<Place, Refusal> {
 }
 
 pub fn step(file: &[u8], place: Place) -> Step {
-    step_plain(file, place.into()).into()
+    let mut lent = Lent::new(place);
+    let old = lent;
+    let answer = unsafe { cgx_step(file.as_ptr(), file.len(), lent.place(), lent.view()) };
+    lent.answered(&old, answer)
 }
 
-/// A step as C sees it, for measuring it alone.
+/// A step as C makes it, for measuring it alone: whether there was a record.
 #[inline]
-pub fn step_plain(file: &[u8], place: PlainPlace) -> PlainStep {
-    unsafe { cgx_step(file.as_ptr(), file.len(), place) }
+pub fn step_plain(file: &[u8], place: &mut PlainPlace, view: &mut MaybeUninit<PlainView>) -> bool {
+    unsafe { cgx_step(file.as_ptr(), file.len(), place, view.as_mut_ptr()) }.status == 0
 }
 
 /// The start of a walk as C sees it; none where it is refused.

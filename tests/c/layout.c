@@ -5,6 +5,7 @@
 #define SAME(name, a, b) typedef char name[(a) == (b) ? 1 : -1]
 #define SIZE(type, bytes) SAME(size_of_##type, sizeof(type), bytes)
 #define MEMBER(type, member, at) SAME(at_##type##_##member, offsetof(type, member), at)
+#define FIELD(kind, member, at) SAME(at_##kind##_##member, offsetof(cgx_fields, kind.member), at)
 
 SIZE(cgx_offset, 16);
 MEMBER(cgx_offset, at, 8);
@@ -40,29 +41,41 @@ MEMBER(cgx_real, value, 8);
 MEMBER(cgx_real, m, 16);
 
 SIZE(cgx_array, 28);
-MEMBER(cgx_array, cols, 4);
-MEMBER(cgx_array, across, 12);
-MEMBER(cgx_array, up, 20);
+MEMBER(cgx_array, rows, 4);
+MEMBER(cgx_array, across, 8);
+MEMBER(cgx_array, up, 16);
+MEMBER(cgx_array, present, 24);
 SIZE(cgx_grid, 24);
 
-SIZE(cgx_fields, 200);
-MEMBER(cgx_fields, text, 0);
-MEMBER(cgx_fields, named, 16);
-MEMBER(cgx_fields, layer, 18);
-MEMBER(cgx_fields, datatype, 20);
-MEMBER(cgx_fields, number, 24);
-MEMBER(cgx_fields, width, 28);
-MEMBER(cgx_fields, point, 32);
-MEMBER(cgx_fields, list, 40);
-MEMBER(cgx_fields, created, 56);
-MEMBER(cgx_fields, modified, 64);
-MEMBER(cgx_fields, munit, 72);
-MEMBER(cgx_fields, uunit, 96);
-MEMBER(cgx_fields, angle, 120);
-MEMBER(cgx_fields, magnif, 144);
-MEMBER(cgx_fields, array, 168);
+SIZE(cgx_fields, 104);
+FIELD(library, munit, 0);
+FIELD(library, uunit, 24);
+FIELD(library, created, 48);
+FIELD(library, modified, 56);
+FIELD(library, name, 64);
+FIELD(structure, created, 0);
+FIELD(structure, modified, 8);
+FIELD(structure, name, 16);
+FIELD(property, number, 0);
+FIELD(property, value, 8);
+FIELD(layer, number, 0);
+FIELD(layer, datatype, 2);
+FIELD(layer, named, 4);
+FIELD(layer, name, 8);
+FIELD(box, boxes, 0);
+FIELD(poly, points, 0);
+FIELD(wire, width, 0);
+FIELD(wire, points, 8);
+FIELD(text, at, 0);
+FIELD(text, width, 8);
+FIELD(text, label, 16);
+FIELD(sref, at, 0);
+FIELD(sref, angle, 8);
+FIELD(sref, magnif, 32);
+FIELD(sref, array, 56);
+FIELD(sref, name, 88);
 
-SIZE(cgx_view, 272);
+SIZE(cgx_view, 176);
 MEMBER(cgx_view, kind, 0);
 MEMBER(cgx_view, flags, 1);
 MEMBER(cgx_view, at, 8);
@@ -77,10 +90,9 @@ MEMBER(cgx_verdict, at, 8);
 SIZE(cgx_start_answer, 96);
 MEMBER(cgx_start_answer, at, 8);
 MEMBER(cgx_start_answer, place, 24);
-SIZE(cgx_step_answer, 368);
+SIZE(cgx_step_answer, 24);
+MEMBER(cgx_step_answer, number, 1);
 MEMBER(cgx_step_answer, at, 8);
-MEMBER(cgx_step_answer, place, 24);
-MEMBER(cgx_step_answer, view, 96);
 SIZE(cgx_box_answer, 20);
 MEMBER(cgx_box_answer, left, 4);
 SIZE(cgx_point_answer, 12);

@@ -71,10 +71,11 @@ static void read_back(void) {
     blob buf = {lend(300), 300}, start = hex(CGX LIBRARY_M STRUCT_A), file;
     blob whole = hex(CGX LIBRARY_M STRUCT_A CARD CAPTION ENDLIB);
     cgx_place p;
+    cgx_view view;
     memcpy(buf.bytes, start.bytes, start.size);
     p = cgx_start(buf.bytes, start.size).place;
-    p = cgx_step(buf.bytes, start.size, p).place;
-    p = cgx_step(buf.bytes, start.size, p).place;
+    cgx_step(buf.bytes, start.size, &p, &view);
+    cgx_step(buf.bytes, start.size, &p, &view);
     p = make_call(buf.bytes, buf.size, p, &frame).place;
     p = cgx_write_endlib(buf.bytes, buf.size, p).place;
     file = copy_of(buf.bytes, p.at);

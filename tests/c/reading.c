@@ -74,25 +74,33 @@ static const refused_file refused_files[] = {
     {"a byte after ENDLIB", SMALL "00", 13, 96},
 };
 
+/* A step with a place and a view that end at pages that may not be touched. Where it gives no record, every byte of both
+   must stay. */
+static cgx_step_answer step_from(blob file, cgx_place *place, cgx_view *view) {
+    blob lent_place = copy_of(place, sizeof *place), lent_view = copy_of(view, sizeof *view);
+    cgx_step_answer step =
+        cgx_step(file.bytes, file.size, (cgx_place *)lent_place.bytes, (cgx_view *)lent_view.bytes);
+    if (step.status != CGX_STEP_RECORD
+        && (memcmp(lent_place.bytes, place, sizeof *place) != 0 || memcmp(lent_view.bytes, view, sizeof *view) != 0)) {
+        expect(false, "walk", "place and view stay where there is no record");
+    }
+    memcpy(place, lent_place.bytes, sizeof *place);
+    memcpy(view, lent_view.bytes, sizeof *view);
+    drop(lent_view);
+    drop(lent_place);
+    return step;
+}
+
 /* Walks a file to its end: the status of the last step, or of a start that is not ready. */
 static cgx_step_answer walked(blob file, size_t *records) {
     cgx_start_answer begun = cgx_start(file.bytes, file.size);
-    cgx_step_answer step;
-    memset(&step, 0, sizeof step);
-    step.status = CGX_STEP_REFUSED;
-    step.number = begun.number;
-    step.at = begun.at;
+    cgx_step_answer step = {CGX_STEP_REFUSED, begun.number, begun.at};
+    cgx_place place = begun.place;
+    cgx_view view;
     *records = 0;
     if (!begun.ready) return step;
-    step.place = begun.place;
-    do {
-        cgx_place old = step.place;
-        step = cgx_step(file.bytes, file.size, old);
-        if (step.status == CGX_STEP_RECORD) ++*records;
-        if (step.status == CGX_STEP_REFUSED && !same_place(old, step.place)) {
-            expect(false, "walk", "a refusal hands back the old place");
-        }
-    } while (step.status == CGX_STEP_RECORD);
+    memset(&view, 0xa5, sizeof view);
+    while ((step = step_from(file, &place, &view)).status == CGX_STEP_RECORD) ++*records;
     return step;
 }
 
@@ -222,115 +230,162 @@ static bool is_box(blob file, cgx_list list, size_t i, int32_t left, int32_t bot
 
 static void fields(blob file, const cgx_view *v) {
     const cgx_fields *f = &v->fields;
+    const cgx_real *munit = &f->library.munit, *uunit = &f->library.uunit, *angle = &f->sref.angle, *magnif = &f->sref.magnif;
+    const cgx_array *array = &f->sref.array;
     const char *name = "fields";
     switch (v->at) {
     case 4:
-        expect(f->munit.present && f->munit.exact && f->munit.value == 0x4189374bc6a7f0p-64, name, "munit");
-        expect(f->uunit.present && !f->uunit.exact && !f->uunit.negative && f->uunit.e == 0x41
-                && f->uunit.m == 0xffffffffffffff, name, "uunit, inexact");
-        expect(is_date(f->created, 45) && is_date(f->modified, 51), name, "dates of LIBRARY");
-        expect(is_text(file, f->text, "m"), name, "name of LIBRARY");
+        expect(munit->present && munit->exact && munit->value == 0x4189374bc6a7f0p-64, name, "munit");
+        expect(uunit->present && !uunit->exact && !uunit->negative && uunit->e == 0x41 && uunit->m == 0xffffffffffffff,
+            name, "uunit, inexact");
+        expect(is_date(f->library.created, 45) && is_date(f->library.modified, 51), name, "dates of LIBRARY");
+        expect(is_text(file, f->library.name, "m"), name, "name of LIBRARY");
         break;
     case 42:
-        expect(is_date(f->created, 45) && is_date(f->modified, 51), name, "dates of STRUCT");
-        expect(is_text(file, f->text, "a"), name, "name of STRUCT");
+        expect(is_date(f->structure.created, 45) && is_date(f->structure.modified, 51), name, "dates of STRUCT");
+        expect(is_text(file, f->structure.name, "a"), name, "name of STRUCT");
         break;
-    case 64: expect(f->number == -1 && is_text(file, f->text, "cp"), name, "CPRPTY"); break;
+    case 64: expect(f->property.number == -1 && is_text(file, f->property.value, "cp"), name, "CPRPTY"); break;
     case 76:
-        expect(f->layer.number == 5 && f->datatype.number == -3, name, "numbers of LAYER");
-        expect(f->named && is_text(file, f->text, "m1"), name, "name of LAYER");
+        expect(f->layer.number.number == 5 && f->layer.datatype.number == -3, name, "numbers of LAYER");
+        expect(f->layer.named && is_text(file, f->layer.name, "m1"), name, "name of LAYER");
         break;
-    case 88: expect(f->number == 127 && is_text(file, f->text, "p"), name, "PROPERTY"); break;
-    case 104: expect(f->number == INT32_MIN && is_text(file, f->text, ""), name, "lowest number"); break;
+    case 88: expect(f->property.number == 127 && is_text(file, f->property.value, "p"), name, "PROPERTY"); break;
+    case 104:
+        expect(f->property.number == INT32_MIN && is_text(file, f->property.value, ""), name, "lowest number");
+        break;
     case 114:
-        expect(f->list.count == 2 && is_box(file, f->list, 0, -80, -57, 82, 58), name, "first box");
-        expect(is_box(file, f->list, 1, 0, 0, 0, 0), name, "second box");
-        expect(!cgx_box_at(file.bytes, file.size, f->list, 2).found, name, "no third box");
+        expect(f->box.boxes.count == 2 && is_box(file, f->box.boxes, 0, -80, -57, 82, 58), name, "first box");
+        expect(is_box(file, f->box.boxes, 1, 0, 0, 0, 0), name, "second box");
+        expect(!cgx_box_at(file.bytes, file.size, f->box.boxes, 2).found, name, "no third box");
         break;
     case 150:
-        expect(f->list.count == 4 && is_point(file, f->list, 2, 10, 20), name, "points of POLY");
-        expect(!cgx_point_at(file.bytes, file.size, f->list, 4).found, name, "no fifth point");
+        expect(f->poly.points.count == 4 && is_point(file, f->poly.points, 2, 10, 20), name, "points of POLY");
+        expect(!cgx_point_at(file.bytes, file.size, f->poly.points, 4).found, name, "no fifth point");
         break;
     case 186:
-        expect(f->width == 10 && f->list.count == 2, name, "WIRE");
-        expect(is_point(file, f->list, 0, -1, INT32_MIN) && is_point(file, f->list, 1, INT32_MAX, 1), name, "points of WIRE");
+        expect(f->wire.width == 10 && f->wire.points.count == 2, name, "WIRE");
+        expect(is_point(file, f->wire.points, 0, -1, INT32_MIN) && is_point(file, f->wire.points, 1, INT32_MAX, 1), name,
+            "points of WIRE");
         break;
     case 210:
-        expect(f->point.x == -80 && f->point.y == INT32_MIN && f->width == 7, name, "TEXT");
-        expect(is_text(file, f->text, "ab\xce"), name, "label cut through a letter");
+        expect(f->text.at.x == -80 && f->text.at.y == INT32_MIN && f->text.width == 7, name, "TEXT");
+        expect(is_text(file, f->text.label, "ab\xce"), name, "label cut through a letter");
         break;
     case 230:
-        expect(f->point.x == 1 && f->point.y == 2 && is_text(file, f->text, "b"), name, "SREF");
-        expect(!f->angle.present && !f->magnif.present && !f->array.present, name, "fields that do not stand");
+        expect(f->sref.at.x == 1 && f->sref.at.y == 2 && is_text(file, f->sref.name, "b"), name, "SREF");
+        expect(!angle->present && !magnif->present && !array->present, name, "fields that do not stand");
         break;
     case 244:
-        expect(f->angle.present && f->angle.exact && f->angle.value == 0.0, name, "angle");
-        expect(f->magnif.present && f->magnif.exact && f->magnif.value == 1.0, name, "magnif");
-        expect(f->array.present && f->array.cols == 2 && f->array.rows == 3 && f->array.across.x == 100
-                && f->array.across.y == 0 && f->array.up.x == 0 && f->array.up.y == 200, name, "array");
+        expect(angle->present && angle->exact && angle->value == 0.0, name, "angle");
+        expect(magnif->present && magnif->exact && magnif->value == 1.0, name, "magnif");
+        expect(array->present && array->cols == 2 && array->rows == 3 && array->across.x == 100 && array->across.y == 0
+                && array->up.x == 0 && array->up.y == 200, name, "array");
         break;
-    case 298: expect(is_text(file, f->text, ""), name, "empty name of STRUCT"); break;
-    case 320: expect(!f->named && f->layer.number == 1 && f->datatype.number == 0, name, "LAYER without a name"); break;
-    case 328: expect(f->named && is_text(file, f->text, ""), name, "LAYER with an empty name"); break;
+    case 298: expect(is_text(file, f->structure.name, ""), name, "empty name of STRUCT"); break;
+    case 320:
+        expect(!f->layer.named && f->layer.number.number == 1 && f->layer.datatype.number == 0, name,
+            "LAYER without a name");
+        break;
+    case 328: expect(f->layer.named && is_text(file, f->layer.name, ""), name, "LAYER with an empty name"); break;
     default: break;
     }
+}
+
+/* How many bytes of a view a step writes: all that stands behind them stays. */
+static size_t written(uint8_t kind, bool named) {
+    const cgx_fields *f = NULL;
+    const size_t fields = offsetof(cgx_view, fields);
+    switch (kind) {
+    case CGX_LIBRARY: return fields + sizeof f->library;
+    case CGX_STRUCT: return fields + sizeof f->structure;
+    case CGX_CPRPTY:
+    case CGX_PROPERTY: return fields + sizeof f->property;
+    case CGX_LAYER: return fields + (named ? sizeof f->layer : 8);
+    case CGX_BOX: return fields + sizeof f->box;
+    case CGX_POLY: return fields + sizeof f->poly;
+    case CGX_WIRE: return fields + sizeof f->wire;
+    case CGX_TEXT: return fields + sizeof f->text;
+    case CGX_SREF: return fields + sizeof f->sref;
+    default: return fields;
+    }
+}
+
+static bool rest_stays(const cgx_view *v) {
+    size_t i;
+    for (i = written(v->kind, v->fields.layer.named); i < sizeof *v; i++) {
+        if (((const uint8_t *)v)[i] != 0) return false;
+    }
+    return true;
 }
 
 static void views(void) {
     blob file = hex(every_kind);
     cgx_place place = cgx_start(file.bytes, file.size).place;
+    cgx_view last;
     size_t i;
     for (i = 0; i < VIEWS; i++) {
-        cgx_step_answer step = cgx_step(file.bytes, file.size, place);
-        expect(step.status == CGX_STEP_RECORD && is_view(&step.view, &expected_views[i]), "view", "of every kind");
+        cgx_view view;
+        cgx_step_answer step;
+        memset(&view, 0, sizeof view);
+        step = step_from(file, &place, &view);
+        expect(step.status == CGX_STEP_RECORD && is_view(&view, &expected_views[i]), "view", "of every kind");
         if (step.status != CGX_STEP_RECORD) break;
-        fields(file, &step.view);
-        place = step.place;
+        fields(file, &view);
+        expect(rest_stays(&view), "view", "has no bytes of another kind's fields");
     }
-    expect(cgx_step(file.bytes, file.size, place).status == CGX_STEP_DONE, "view", "done");
+    memset(&last, 0xa5, sizeof last);
+    expect(step_from(file, &place, &last).status == CGX_STEP_DONE, "view", "done");
     drop(file);
 }
 
 /* From the view of the BOX back to its STRUCT, its LAYER and its two properties, over the unknown record between them. */
 static void read_again(void) {
     blob file = hex(every_kind);
-    cgx_place place = cgx_start(file.bytes, file.size).place;
-    cgx_step_answer step, cell, layer, first, second;
+    cgx_place place = cgx_start(file.bytes, file.size).place, back;
+    cgx_view box, view;
     do {
-        step = cgx_step(file.bytes, file.size, place);
-        place = step.place;
-    } while (step.status == CGX_STEP_RECORD && step.view.kind != CGX_BOX);
-    cell = cgx_step(file.bytes, file.size, cgx_place_before(&step.view, step.view.cell.at));
-    layer = cgx_step(file.bytes, file.size, cgx_place_before(&step.view, step.view.layer.at));
-    first = cgx_step(file.bytes, file.size, cgx_place_before(&step.view, step.view.run.first));
-    second = cgx_step(file.bytes, file.size, first.place);
-    expect(cell.status == CGX_STEP_RECORD && is_view(&cell.view, &expected_views[1]), "read again", "STRUCT");
-    expect(layer.status == CGX_STEP_RECORD && is_view(&layer.view, &expected_views[3]), "read again", "LAYER");
-    expect(first.status == CGX_STEP_RECORD && is_view(&first.view, &expected_views[4]), "read again", "first PROPERTY");
-    expect(second.status == CGX_STEP_RECORD && is_view(&second.view, &expected_views[5]), "read again", "second PROPERTY");
+        if (cgx_step(file.bytes, file.size, &place, &box).status != CGX_STEP_RECORD) break;
+    } while (box.kind != CGX_BOX);
+    back = cgx_place_before(&box, box.cell.at);
+    expect(cgx_step(file.bytes, file.size, &back, &view).status == CGX_STEP_RECORD && is_view(&view, &expected_views[1]),
+        "read again", "STRUCT");
+    back = cgx_place_before(&box, box.layer.at);
+    expect(cgx_step(file.bytes, file.size, &back, &view).status == CGX_STEP_RECORD && is_view(&view, &expected_views[3]),
+        "read again", "LAYER");
+    back = cgx_place_before(&box, box.run.first);
+    expect(cgx_step(file.bytes, file.size, &back, &view).status == CGX_STEP_RECORD && is_view(&view, &expected_views[4]),
+        "read again", "first PROPERTY");
+    expect(cgx_step(file.bytes, file.size, &back, &view).status == CGX_STEP_RECORD && is_view(&view, &expected_views[5]),
+        "read again", "second PROPERTY");
     drop(file);
 }
 
 /* 004's second real, as uunit. */
 static void nano(void) {
     blob file = hex(SMALL);
-    cgx_step_answer step = cgx_step(file.bytes, file.size, cgx_start(file.bytes, file.size).place);
-    expect(step.view.fields.uunit.exact && step.view.fields.uunit.value == 0x44b82fa09b5a54p-84, "real", "39 44 b8 ..");
+    cgx_place place = cgx_start(file.bytes, file.size).place;
+    cgx_view view;
+    expect(cgx_step(file.bytes, file.size, &place, &view).status == CGX_STEP_RECORD && view.fields.library.uunit.exact
+            && view.fields.library.uunit.value == 0x44b82fa09b5a54p-84, "real", "39 44 b8 ..");
     drop(file);
 }
 
 /* ---- forged places: each clause of 16, and what is no forgery */
 
 static void refuse_place(blob file, cgx_place place) {
-    cgx_step_answer step = cgx_step(file.bytes, file.size, place);
-    expect(step.status == CGX_STEP_REFUSED && step.number == CGX_REFUSED_NO_SUCH && !step.at.present
-            && same_place(step.place, place), "forged place", "is 16");
+    cgx_view view;
+    cgx_step_answer step;
+    memset(&view, 0xa5, sizeof view);
+    step = step_from(file, &place, &view);
+    expect(step.status == CGX_STEP_REFUSED && step.number == CGX_REFUSED_NO_SUCH && !step.at.present, "forged place",
+        "is 16");
 }
 
 static void forged(void) {
     blob file = hex(SMALL), tiny = copy_of("cgx", 3);
     cgx_place start = cgx_start(file.bytes, file.size).place, places[FORGED], equal = start;
-    cgx_step_answer step;
+    cgx_view view;
     size_t i;
     forged_places(file.size, places);
     for (i = 0; i < FORGED; i++) refuse_place(file, places[i]);
@@ -338,12 +393,12 @@ static void forged(void) {
 
     equal.at = equal.cell.at = equal.layer.at = 92;
     equal.library = equal.cell.present = equal.layer.present = true;
-    step = cgx_step(file.bytes, file.size, equal);
-    expect(step.status == CGX_STEP_RECORD && step.view.kind == CGX_ENDLIB && step.view.cell.at == 92, "forged place",
-        "equal is no forgery");
+    expect(cgx_step(file.bytes, file.size, &equal, &view).status == CGX_STEP_RECORD && view.kind == CGX_ENDLIB
+            && view.cell.at == 92, "forged place", "equal is no forgery");
     equal.at = file.size;
     equal.ended = true;
-    expect(cgx_step(file.bytes, file.size, equal).status == CGX_STEP_DONE, "forged place", "the end of the file is none");
+    expect(cgx_step(file.bytes, file.size, &equal, &view).status == CGX_STEP_DONE, "forged place",
+        "the end of the file is none");
     drop(tiny);
     drop(file);
 }

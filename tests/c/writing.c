@@ -373,6 +373,7 @@ static uint8_t kind_of(which_call which) {
 static void read_back(void) {
     blob normal = hex(every_kind_normal), buf = {lend(500), 500}, file, again;
     cgx_place place = cgx_write_start(buf.bytes, buf.size).place, walked;
+    cgx_view view;
     cgx_normal_answer n;
     size_t i;
     for (i = 0; i < CALLS; i++) {
@@ -391,12 +392,11 @@ static void read_back(void) {
     expect(n.made && n.length == file.size && same_bytes(again, file), "a drawing", "is its own normal form");
     walked = cgx_start(file.bytes, file.size).place;
     for (i = 0; i < CALLS; i++) {
-        cgx_step_answer step = cgx_step(file.bytes, file.size, walked);
-        expect(step.status == CGX_STEP_RECORD && step.view.kind == kind_of(drawing[i].which), "a drawing", "reads back");
-        walked = step.place;
+        cgx_step_answer step = cgx_step(file.bytes, file.size, &walked, &view);
+        expect(step.status == CGX_STEP_RECORD && view.kind == kind_of(drawing[i].which), "a drawing", "reads back");
     }
     expect(same_place(walked, place), "a drawing", "walk and writer end at the same place");
-    expect(cgx_step(file.bytes, file.size, walked).status == CGX_STEP_DONE, "a drawing", "is done");
+    expect(cgx_step(file.bytes, file.size, &walked, &view).status == CGX_STEP_DONE, "a drawing", "is done");
     drop(again);
     drop(file);
     drop(buf);

@@ -1,5 +1,5 @@
 //! The functions the archive exports. A slice crosses as its pointer and its
-//! count, a struct by value.
+//! count, a struct by value; only a step's place and view are lent.
 
 use super::plain::*;
 
@@ -12,7 +12,7 @@ type Buffer = *mut u8;
 extern "C" {
     pub fn cgx_check(file: Byte, len: usize) -> PlainVerdict;
     pub fn cgx_start(file: Byte, len: usize) -> PlainStart;
-    pub fn cgx_step(file: Byte, len: usize, place: PlainPlace) -> PlainStep;
+    pub fn cgx_step(file: Byte, len: usize, place: *mut PlainPlace, view: *mut PlainView) -> PlainStep;
     pub fn cgx_box_at(file: Byte, len: usize, boxes: Repeat, i: usize) -> PlainBox;
     pub fn cgx_point_at(file: Byte, len: usize, points: Repeat, i: usize) -> PlainPoint;
     pub fn cgx_text_inside(file: Byte, len: usize, text: Span) -> bool;

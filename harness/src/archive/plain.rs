@@ -221,11 +221,11 @@ impl From<PlainReal> for Option<Real> {
 #[repr(C)]
 #[derive(Clone, Copy)]
 pub struct PlainArray {
-    present: bool,
     cols: i32,
     rows: i32,
     across: Point,
     up: Point,
+    present: bool,
 }
 
 impl From<PlainArray> for Option<Array> {
@@ -249,79 +249,150 @@ pub struct Grid {
     pub up: Point,
 }
 
-/// The fields of all kinds in one: the kind tells which of them count.
 #[repr(C)]
 #[derive(Clone, Copy)]
-pub struct PlainFields {
-    text: Span,
-    named: bool,
-    layer: PlainLayerNo,
-    datatype: PlainDataType,
-    number: i32,
-    width: i32,
-    point: Point,
-    list: Repeat,
-    created: PlainDate,
-    modified: PlainDate,
+pub struct PlainLibrary {
     munit: PlainReal,
     uunit: PlainReal,
+    created: PlainDate,
+    modified: PlainDate,
+    name: Span,
+}
+
+#[repr(C)]
+#[derive(Clone, Copy)]
+pub struct PlainStruct {
+    created: PlainDate,
+    modified: PlainDate,
+    name: Span,
+}
+
+#[repr(C)]
+#[derive(Clone, Copy)]
+pub struct PlainProperty {
+    number: i32,
+    value: Span,
+}
+
+#[repr(C)]
+#[derive(Clone, Copy)]
+pub struct PlainLayer {
+    number: PlainLayerNo,
+    datatype: PlainDataType,
+    named: bool,
+    name: Span,
+}
+
+#[repr(C)]
+#[derive(Clone, Copy)]
+pub struct PlainWire {
+    width: i32,
+    points: Repeat,
+}
+
+#[repr(C)]
+#[derive(Clone, Copy)]
+pub struct PlainText {
+    at: Point,
+    width: i32,
+    label: Span,
+}
+
+#[repr(C)]
+#[derive(Clone, Copy)]
+pub struct PlainSref {
+    at: Point,
     angle: PlainReal,
     magnif: PlainReal,
     array: PlainArray,
+    name: Span,
+}
+
+/// The fields of one kind: which, the view's kind tells.
+#[repr(C)]
+#[derive(Clone, Copy)]
+pub union PlainFields {
+    library: PlainLibrary,
+    structure: PlainStruct,
+    property: PlainProperty,
+    layer: PlainLayer,
+    list: Repeat,
+    wire: PlainWire,
+    text: PlainText,
+    sref: PlainSref,
 }
 
 impl PlainFields {
-    fn of_kind(self, kind: Kind) -> Fields {
-        let text = Text::from(self.text);
-        let list = List::from(self.list);
-        let Point { x, y } = self.point;
+    /// Safe where the archive wrote the fields of this kind: every pattern of
+    /// bytes is good in all members but bools, and those it writes.
+    #[rustfmt::skip]
+    unsafe fn of_kind(self, kind: Kind) -> Fields {
         match kind {
-            Kind::Library => Fields::Library {
-                munit: self.munit.into(),
-                uunit: self.uunit.into(),
-                created: self.created.into(),
-                modified: self.modified.into(),
-                name: text,
-            },
-            Kind::Struct => Fields::Struct {
-                created: self.created.into(),
-                modified: self.modified.into(),
-                name: text,
-            },
-            Kind::Cprpty => Fields::Cprpty {
-                number: self.number,
-                string: text,
-            },
-            Kind::Property => Fields::Property {
-                number: self.number,
-                string: text,
-            },
-            Kind::Layer => Fields::Layer {
-                number: LayerNo(self.layer.0),
-                data_type: DataType(self.datatype.0),
-                name: self.named.then_some(text),
-            },
-            Kind::Box => Fields::Box { boxes: list },
-            Kind::Poly => Fields::Poly { points: list },
-            Kind::Wire => Fields::Wire {
-                width: self.width,
-                points: list,
-            },
-            Kind::Text => Fields::Text {
-                x,
-                y,
-                width: self.width,
-                label: text,
-            },
-            Kind::Sref => Fields::Sref {
-                x,
-                y,
-                angle: self.angle.into(),
-                magnif: self.magnif.into(),
-                array: self.array.into(),
-                name: text,
-            },
+            Kind::Library => {
+                let PlainLibrary { munit, uunit, created, modified, name } = self.library;
+                Fields::Library {
+                    munit: munit.into(),
+                    uunit: uunit.into(),
+                    created: created.into(),
+                    modified: modified.into(),
+                    name: name.into(),
+                }
+            }
+            Kind::Struct => {
+                let PlainStruct { created, modified, name } = self.structure;
+                Fields::Struct { created: created.into(), modified: modified.into(), name: name.into() }
+            }
+            Kind::Cprpty => {
+                let PlainProperty { number, value } = self.property;
+                Fields::Cprpty { number, string: value.into() }
+            }
+            Kind::Property => {
+                let PlainProperty { number, value } = self.property;
+                Fields::Property { number, string: value.into() }
+            }
+            Kind::Layer => {
+                let PlainLayer { number, datatype, named, name } = self.layer;
+                Fields::Layer {
+                    number: LayerNo(number.0),
+                    data_type: DataType(datatype.0),
+                    name: named.then_some(name.into()),
+                }
+            }
+            Kind::Box => Fields::Box { boxes: self.list.into() },
+            Kind::Poly => Fields::Poly { points: self.list.into() },
+            Kind::Wire => {
+                let PlainWire { width, points } = self.wire;
+                Fields::Wire { width, points: points.into() }
+            }
+            Kind::Text => {
+                let PlainText { at: Point { x, y }, width, label } = self.text;
+                Fields::Text { x, y, width, label: label.into() }
+            }
+            Kind::Sref => {
+                let PlainSref { at: Point { x, y }, angle, magnif, array, name } = self.sref;
+                Fields::Sref {
+                    x,
+                    y,
+                    angle: angle.into(),
+                    magnif: magnif.into(),
+                    array: array.into(),
+                    name: name.into(),
+                }
+            }
             Kind::Endlib => Fields::Endlib,
+        }
+    }
+
+    /// How many words of the fields a step writes.
+    fn words(kind: Kind, named: bool) -> usize {
+        match kind {
+            Kind::Library => 10,
+            Kind::Struct | Kind::Text => 4,
+            Kind::Cprpty | Kind::Property | Kind::Wire => 3,
+            Kind::Layer => 1 + 2 * usize::from(named),
+            Kind::Box | Kind::Poly => 2,
+            Kind::Sref => 13,
+            Kind::Endlib => 0,
         }
     }
 }
@@ -338,20 +409,121 @@ pub struct PlainView {
     fields: PlainFields,
 }
 
-impl From<PlainView> for View {
-    fn from(plain: PlainView) -> Self {
-        let kind = Kind::of(plain.kind).expect("a view has one of the eleven kinds");
-        let run: Option<Run> = plain.run.into();
+impl PlainView {
+    /// Safe where a step has written the view.
+    pub unsafe fn view(self) -> View {
+        let kind = Kind::of(self.kind).expect("a view has one of the eleven kinds");
+        let run: Option<Run> = self.run.into();
         View {
             kind,
-            flags: plain.flags,
-            offset: plain.at,
-            cell: plain.cell.into(),
-            layer: plain.layer.into(),
+            flags: self.flags,
+            offset: self.at,
+            cell: self.cell.into(),
+            layer: self.layer.into(),
             run_first: run.map(|run| run.first),
             run_count: run.map_or(0, |run| run.count),
-            fields: plain.fields.of_kind(kind),
+            fields: self.fields.of_kind(kind),
         }
+    }
+}
+
+// ---- what a step is lent
+
+const PLACE_WORDS: usize = size_of::<PlainPlace>() / 8;
+const VIEW_WORDS: usize = size_of::<PlainView>() / 8;
+const FIELD_WORDS: usize = size_of::<PlainFields>() / 8;
+
+/// What stands in lent memory before a step, in the padding of a place too.
+const FILL: u64 = 0xa5a5_a5a5_a5a5_a5a5;
+
+/// A place and a view as words, with margins, to see what a step leaves of them.
+#[repr(C)]
+#[derive(Clone, Copy, PartialEq)]
+pub struct Lent {
+    before: u64,
+    place: [u64; PLACE_WORDS],
+    between: u64,
+    view: [u64; VIEW_WORDS],
+    behind: u64,
+}
+
+/// A word whose low bytes are these bools, and whose others say nothing.
+fn bools(values: &[bool]) -> u64 {
+    values.iter().rev().fold(
+        FILL << (8 * values.len()) >> (8 * values.len()),
+        |word, &value| word << 8 | u64::from(value),
+    )
+}
+
+impl Lent {
+    pub fn new(place: Place) -> Self {
+        let p = PlainPlace::from(place);
+        Lent {
+            before: FILL,
+            place: [
+                p.at as u64,
+                bools(&[p.cell.present]),
+                p.cell.at as u64,
+                bools(&[p.layer.present]),
+                p.layer.at as u64,
+                bools(&[p.run.present]),
+                p.run.first as u64,
+                p.run.count as u64,
+                bools(&[p.library, p.fresh, p.ended]),
+            ],
+            between: FILL,
+            view: [FILL; VIEW_WORDS],
+            behind: FILL,
+        }
+    }
+
+    pub fn place(&mut self) -> *mut PlainPlace {
+        self.place.as_mut_ptr().cast()
+    }
+
+    pub fn view(&mut self) -> *mut PlainView {
+        self.view.as_mut_ptr().cast()
+    }
+
+    /// What the step answered. Panics where it left other bytes than it may.
+    pub fn answered(mut self, old: &Lent, answer: PlainStep) -> Step {
+        // The words of a place are plain numbers, and its bools were written by
+        // `new` or by the archive.
+        let place = unsafe { *self.place() }.into();
+        let untouched = || assert!(self == *old, "a step without a record left its mark");
+        match answer.status {
+            0 => Step::Record(unsafe { self.seen(old) }, place),
+            1 => {
+                untouched();
+                Step::Done
+            }
+            2 => {
+                untouched();
+                Step::Refused {
+                    number: answer.number,
+                    at: answer.at.into(),
+                    place,
+                }
+            }
+            other => panic!("a step has status 0, 1 or 2, not {other}"),
+        }
+    }
+
+    /// Safe where a step has written the view.
+    unsafe fn seen(mut self, old: &Lent) -> View {
+        let plain = *self.view();
+        let view = plain.view();
+        let named = matches!(view.fields, Fields::Layer { name: Some(_), .. });
+        let written = VIEW_WORDS - FIELD_WORDS + PlainFields::words(view.kind, named);
+        assert!(
+            self.before == FILL && self.between == FILL && self.behind == FILL,
+            "a step wrote beside what it was lent"
+        );
+        assert!(
+            self.view[written..] == old.view[written..],
+            "a step wrote fields of another kind"
+        );
+        view
     }
 }
 
@@ -413,23 +585,6 @@ pub struct PlainStep {
     pub status: u8,
     number: u8,
     at: PlainOffset,
-    pub place: PlainPlace,
-    pub view: PlainView,
-}
-
-impl From<PlainStep> for Step {
-    fn from(plain: PlainStep) -> Self {
-        match plain.status {
-            0 => Step::Record(plain.view.into(), plain.place.into()),
-            1 => Step::Done,
-            2 => Step::Refused {
-                number: plain.number,
-                at: plain.at.into(),
-                place: plain.place.into(),
-            },
-            other => panic!("a step has status 0, 1 or 2, not {other}"),
-        }
-    }
 }
 
 #[repr(C)]

@@ -70,45 +70,47 @@ static void print_array(cgx_array a) {
 static void print_fields(uint8_t kind, const cgx_fields *f) {
     switch (kind) {
     case CGX_LIBRARY:
-        print_real(f->munit);
-        print_real(f->uunit);
-        /* and as a STRUCT */
-        /* fall through */
+        print_real(f->library.munit);
+        print_real(f->library.uunit);
+        print_date(f->library.created);
+        print_date(f->library.modified);
+        print_text(f->library.name);
+        break;
     case CGX_STRUCT:
-        print_date(f->created);
-        print_date(f->modified);
-        print_text(f->text);
+        print_date(f->structure.created);
+        print_date(f->structure.modified);
+        print_text(f->structure.name);
         break;
     case CGX_CPRPTY:
     case CGX_PROPERTY:
-        print_long(f->number);
-        print_text(f->text);
+        print_long(f->property.number);
+        print_text(f->property.value);
         break;
     case CGX_LAYER:
-        printf(" %d %d", f->layer.number, f->datatype.number);
-        if (f->named) {
-            print_text(f->text);
+        printf(" %d %d", f->layer.number.number, f->layer.datatype.number);
+        if (f->layer.named) {
+            print_text(f->layer.name);
         } else {
             printf(" -");
         }
         break;
-    case CGX_BOX:
-    case CGX_POLY: print_list(f->list); break;
+    case CGX_BOX: print_list(f->box.boxes); break;
+    case CGX_POLY: print_list(f->poly.points); break;
     case CGX_WIRE:
-        print_long(f->width);
-        print_list(f->list);
+        print_long(f->wire.width);
+        print_list(f->wire.points);
         break;
     case CGX_TEXT:
-        print_point(f->point);
-        print_long(f->width);
-        print_text(f->text);
+        print_point(f->text.at);
+        print_long(f->text.width);
+        print_text(f->text.label);
         break;
     case CGX_SREF:
-        print_point(f->point);
-        print_real(f->angle);
-        print_real(f->magnif);
-        print_array(f->array);
-        print_text(f->text);
+        print_point(f->sref.at);
+        print_real(f->sref.angle);
+        print_real(f->sref.magnif);
+        print_array(f->sref.array);
+        print_text(f->sref.name);
         break;
     default: break;
     }
@@ -128,16 +130,18 @@ static void print_view(const cgx_view *v) {
 
 static void print_walk(drawing d) {
     cgx_start_answer start = cgx_start(d.bytes, d.size);
+    cgx_place place = start.place;
+    cgx_view view;
     cgx_step_answer step;
     if (!start.ready) {
         printf("  ");
         print_refusal(start.number, start.at);
         return;
     }
-    step = cgx_step(d.bytes, d.size, start.place);
+    step = cgx_step(d.bytes, d.size, &place, &view);
     while (step.status == CGX_STEP_RECORD) {
-        print_view(&step.view);
-        step = cgx_step(d.bytes, d.size, step.place);
+        print_view(&view);
+        step = cgx_step(d.bytes, d.size, &place, &view);
     }
     if (step.status == CGX_STEP_DONE) {
         printf("  done\n");
@@ -229,23 +233,26 @@ static void print_place(cgx_place p) {
 }
 
 static void print_step(drawing d) {
+    cgx_place place;
+    cgx_view view;
     cgx_step_answer step;
     if (d.size < PLACE) {
         printf("no place\n");
         return;
     }
     printf("step\n");
-    step = cgx_step(d.bytes + PLACE, d.size - PLACE, place_of(d.bytes));
+    place = place_of(d.bytes);
+    step = cgx_step(d.bytes + PLACE, d.size - PLACE, &place, &view);
     switch (step.status) {
     case CGX_STEP_RECORD:
-        print_view(&step.view);
-        print_place(step.place);
+        print_view(&view);
+        print_place(place);
         break;
     case CGX_STEP_DONE: printf("  done\n"); break;
     default:
         printf("  ");
         print_refusal(step.number, step.at);
-        print_place(step.place);
+        print_place(place);
     }
 }
 

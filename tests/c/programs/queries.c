@@ -40,24 +40,24 @@ static void print_points(drawing d, cgx_list list) {
 
 static void print_lists(drawing d) {
     cgx_start_answer start = cgx_start(d.bytes, d.size);
-    cgx_step_answer step;
+    cgx_place place = start.place;
+    cgx_view view;
     if (!start.ready) return;
-    for (step = cgx_step(d.bytes, d.size, start.place); step.status == CGX_STEP_RECORD;
-         step = cgx_step(d.bytes, d.size, step.place)) {
-        const cgx_fields *f = &step.view.fields;
-        switch (step.view.kind) {
+    while (cgx_step(d.bytes, d.size, &place, &view).status == CGX_STEP_RECORD) {
+        const cgx_fields *f = &view.fields;
+        switch (view.kind) {
         case CGX_BOX:
-            printf("  %zu boxes", step.view.at);
-            print_boxes(d, f->list);
+            printf("  %zu boxes", view.at);
+            print_boxes(d, f->box.boxes);
             break;
         case CGX_POLY:
         case CGX_WIRE:
-            printf("  %zu points", step.view.at);
-            print_points(d, f->list);
+            printf("  %zu points", view.at);
+            print_points(d, view.kind == CGX_POLY ? f->poly.points : f->wire.points);
             break;
         case CGX_TEXT:
-            printf("  %zu text", step.view.at);
-            print_quoted(cgx_text_bytes(d.bytes, d.size, f->text), f->text.len);
+            printf("  %zu text", view.at);
+            print_quoted(cgx_text_bytes(d.bytes, d.size, f->text.label), f->text.label.len);
             break;
         default: break;
         }

@@ -10,6 +10,7 @@ mod mixes;
 mod timing;
 
 use std::hint::black_box;
+use std::mem::MaybeUninit;
 use std::process::ExitCode;
 
 use cgx_harness::generate::Call;
@@ -159,16 +160,13 @@ fn walk(mix: &Mix, rounds: usize, records: usize) -> Best {
 
 fn walk_by_archive(file: &[u8]) -> usize {
     let mut place = archive::start_plain(file).expect("a good file");
+    let mut view = MaybeUninit::uninit();
     let mut records = 0;
-    loop {
-        let step = archive::step_plain(file, place);
-        if step.status != 0 {
-            return records;
-        }
-        black_box(&step.view);
+    while archive::step_plain(file, &mut place, &mut view) {
+        black_box(&view);
         records += 1;
-        place = step.place;
     }
+    records
 }
 
 fn walk_by_reference(file: &[u8]) -> usize {

@@ -40,22 +40,26 @@ pub fn best_of(
     mut c: impl FnMut(),
     mut bare: impl FnMut(),
 ) -> Best {
-    let mut best = Best {
-        archive: f64::MAX,
-        rust: f64::MAX,
-        c: f64::MAX,
-        bare: f64::MAX,
-    };
-    for _ in 0..rounds {
-        best.archive = best.archive.min(seconds(&mut archive));
-        best.rust = best.rust.min(seconds(&mut rust));
-        best.c = best.c.min(seconds(&mut c));
-        best.bare = best.bare.min(seconds(&mut bare));
+    let mut contenders: [&mut dyn FnMut(); 4] = [&mut archive, &mut rust, &mut c, &mut bare];
+    let mut best = [f64::MAX; 4];
+    for round in 0..rounds {
+        // Each round begins with another one: what the one before has left in
+        // the caches is then unfair to none of them.
+        for turn in 0..4 {
+            let i = (round + turn) % 4;
+            best[i] = best[i].min(seconds(contenders[i]));
+        }
     }
-    best
+    let [archive, rust, c, bare] = best;
+    Best {
+        archive,
+        rust,
+        c,
+        bare,
+    }
 }
 
-fn seconds(work: &mut impl FnMut()) -> f64 {
+fn seconds(work: &mut dyn FnMut()) -> f64 {
     let start = Instant::now();
     work();
     start.elapsed().as_secs_f64()
