@@ -1,2 +1,3 @@
 pub mod Strings
+pub mod Pieces
 pub mod Boxes

@@ -1,8 +1,8 @@
 // The rules 9 to 12 of a record's fields, each on the bytes of the field.
-// The two loops have no early exit: several bytes or boxes can then be taken at a time, and a refused file is read once only.
+// The loops over bytes and over boxes have no early exit: several can then be taken at a time, and a refused file is read once only.
 ghost use mathlib.Core.Path.{_≡_};
 ghost use mathlib.Core.Bool.{_&&_};
-ghost use Prim.Native.Nat.{_+_, _%_, _≤_};
+ghost use Prim.Native.Nat.{_+_, _%_, _≤_, _<_};
 ghost use lib.ListN.{length, take, drop};
 ghost use lib.Signed.{leZ};
 ghost use Rattle.cgx_spec.specs.Numbers.{longOf, longsOf};
@@ -99,7 +99,45 @@ pub fn optional_good(b: &[u8]) -> bool
     string_good(b)
 }
 
+// Four bytes or more go in pieces: their size is a constant at each call, so that a piece is compiled to whole vectors, and no byte is
+// handled alone.
 pub fn no_zero(b: &[u8]) -> bool
+    ensures { λ r. ⌜ r ≡ noZero (now (b .entry)) ⌝ }
+{
+    let n = b.len();
+    if 128 <= n {
+        return none_in_pieces(b, 128);
+    }
+    if 16 <= n {
+        return none_in_pieces(b, 16);
+    }
+    if 8 <= n {
+        return none_in_pieces(b, 8);
+    }
+    if 4 <= n {
+        return none_in_pieces(b, 4);
+    }
+    none_in(b)
+}
+
+// From the beginning on, and a last piece that ends where b ends and may overlap the one before it. A zero ends the search between pieces.
+fn none_in_pieces(b: &[u8], size: usize) -> bool
+    requires { ⌜ (0 < size) × (size ≤ length (now b)) ⌝ }
+    ensures { λ r. ⌜ r ≡ noZero (now (b .entry)) ⌝ }
+{
+    let last = b.len() - size;
+    let mut at = 0;
+    while at < last {
+        let end = at + size;
+        if !none_in(&b[at..end]) {
+            return false;
+        }
+        at = end;
+    }
+    none_in(&b[last..])
+}
+
+fn none_in(b: &[u8]) -> bool
     ensures { λ r. ⌜ r ≡ noZero (now (b .entry)) ⌝ }
 {
     let mut none = true;

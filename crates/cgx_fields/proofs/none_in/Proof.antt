@@ -6,8 +6,8 @@ use native.Mathlib.Omega.{arith}
 use lib.ListN.{length, drop}
 use Rattle.cgx_fields.specs.Zeros.{noZero}
 use Rattle.cgx_fields.proofs.Strings.{none-on, none-done}
-use Rattle.cgx_fields.proofs.no_zero.Statement.{statement}
-use Rattle.cgx_fields.proofs.no_zero.Tie as tie
+use Rattle.cgx_fields.proofs.none_in.Statement.{statement}
+use Rattle.cgx_fields.proofs.none_in.Tie as tie
 
 abbrev Inv-loop : tie.InvT-loop
 Inv-loop b none₀ i₀ none i = (i ≤ length b) × (noZero b ≡ (none && noZero (drop i b)))
@@ -35,7 +35,7 @@ loop-again c =
 returns : tie.Need-returns Inv-loop μ-loop
 returns c = let l = c .before .loop in none-done (c .before .before .args .b .now) (l .i) _ (l .none) (l .inv .1) (omega arith) (omega arith)
 
-pub no-zero-spec : {M : Type 1} → statement M
-no-zero-spec =
+pub none-in-spec : {M : Type 1} → statement M
+none-in-spec =
     tie.close
     (tie.spec Inv-loop μ-loop loop-holds shared-slice-read-none add-i loop-less loop-again returns)
