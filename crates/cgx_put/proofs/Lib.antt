@@ -1,3 +1,5 @@
--- Laws that proofs here and above cite: `Puts`, stores one after another and one inside another; `Padding`, a text with its zero bytes.
+-- Laws that proofs here and above cite: `Puts`, stores one after another, one inside another and one over another; `Words`, a copy by words;
+-- `Padding`, a text with its zero bytes.
 pub mod Puts
+pub mod Words
 pub mod Padding

@@ -1,13 +1,13 @@
 -- Laws of stores: callers use these in place of what `put` computes to. Assumes nothing.
 use mathlib.Core.Path.{_≡_, refl, sym, ap, _∙_}
 use mathlib.Core.List.{List, [], _∷_, _++_, append-assoc}
-use Prim.Native.Nat.{ℕ, zero, suc, _+_, _*_, _≤_, _<_}
+use Prim.Native.Nat.{ℕ, zero, suc, _+_, _*_, _-_, _≤_, _<_}
 use native.Mathlib.Nat.{add-zero, zero-add}
 use native.Mathlib.Omega.{arith}
 use native.Mathlib.Numerals.{add-one}
 use lib.IntN.{ℤ}
-use lib.ListN.{length, getD, take, drop, set, length-append}
-use lib.Seq.{drop-cons, drop-length, sets, sets-eq, length-sets, set-set, set-comm, take-at, drop-at}
+use lib.ListN.{length, getD, take, drop, set, length-append, length-drop, take-append-drop}
+use lib.Seq.{drop-cons, drop-length, sets, sets-eq, length-sets, set-set, set-comm, length-take-le, take-add, take-at, drop-at}
 use Rattle.cgx_spec.specs.Numbers.{longBytes}
 use Rattle.cgx_put.specs.Put.{put, longsBytes}
 
@@ -52,13 +52,15 @@ set-sets l j i v [] h = refl
 set-sets l j i v (w ∷ vs) h =
     set-sets (set l i w) j (suc i) v vs (omega arith) ∙ ap (λ (x : List ℕ). sets x (suc i) vs) (set-comm l i j w v (λ e. let q : i ≡ j = e in omega arith))
 
+put-first : (l : List ℕ) (at v w : ℕ) (vs : List ℕ) → set (put l at (w ∷ vs)) at v ≡ put l at (v ∷ vs)
+unfolding put
+put-first l at v w vs = set-sets (set l at w) at (suc at) v vs (omega arith) ∙ ap (λ (x : List ℕ). sets x (suc at) vs) (set-set l at w v)
+
 pub put-set : (l : List ℕ) (at i v : ℕ) (vs : List ℕ) → i < length vs → set (put l at vs) (at + i) v ≡ put l at (set vs i v)
 unfolding put
 put-set l at i v [] h = absurd (omega arith)
 put-set l at zero v (w ∷ vs) h =
-    ap (λ (k : ℕ). set (sets (set l at w) (suc at) vs) k v) (add-zero at)
-    ∙ set-sets (set l at w) at (suc at) v vs (omega arith)
-    ∙ ap (λ (x : List ℕ). sets x (suc at) vs) (set-set l at w v)
+    ap (λ (k : ℕ). set (sets (set l at w) (suc at) vs) k v) (add-zero at) ∙ put-first l at v w vs
 put-set l at (suc i) v (w ∷ vs) h =
     ap (λ (k : ℕ). set (sets (set l at w) (suc at) vs) k v) (let e : at + suc i ≡ suc at + i = omega arith in e)
     ∙ put-set (set l at w) (suc at) i v vs (omega arith)
@@ -94,7 +96,32 @@ put-behind (v ∷ x) l i ws =
     ∙ put-suc (x ++ l) v (length x + i) ws
     ∙ ap (λ (r : List ℕ). v ∷ r) (put-behind x l i ws)
 
--- ---- the turns of the two loops
+-- ---- one store over another that begins where it does, or before it
+
+put-twice : (l : List ℕ) (at : ℕ) (vs ws : List ℕ) → length vs ≤ length ws → put (put l at vs) at ws ≡ put l at ws
+unfolding put
+put-twice l at [] ws h = refl
+put-twice l at (v ∷ vs) [] h = absurd (omega arith)
+put-twice l at (v ∷ vs) (w ∷ ws) h =
+    ap (λ (x : List ℕ). sets x (suc at) ws) (put-first l at w v vs) ∙ put-twice (set l at w) (suc at) vs ws (omega arith)
+
+-- the first i bytes of src, then all from j on
+pub put-overlap : (l src : List ℕ) (at i j : ℕ) → j ≤ i → i ≤ length src → put (put l at (take i src)) (at + j) (drop j src) ≡ put l at src
+put-overlap l src at i j h g =
+    let x = take j src in
+    let d = drop j src in
+    let n = i - j in
+    let e : i ≡ j + n = omega arith in
+    let lx : length x ≡ j = length-take-le j src (omega arith) in
+    let ld : length (take n d) ≡ n = length-take-le n d (omega (arith, length-drop j src)) in
+    ap (λ (k : ℕ). put (put l at (take k src)) (at + j) d) e
+    ∙ ap (λ (y : List ℕ). put (put l at y) (at + j) d) (take-add j n src)
+    ∙ ap (λ (y : List ℕ). put y (at + j) d) (sym (put-next l at j (at + j) x (take n d) lx refl))
+    ∙ put-twice (put l at x) (at + j) (take n d) d (omega (arith, length-drop j src))
+    ∙ put-next l at j (at + j) x d lx refl
+    ∙ ap (put l at) (take-append-drop j src)
+
+-- ---- the turns of the loops over bytes and over longs
 
 pub put-copy : (l src : List ℕ) (at i : ℕ) → i < length src → put (set l (at + i) (getD src i 0)) (at + (i + 1)) (drop (i + 1) src) ≡ put l (at + i) (drop i src)
 put-copy l src at i h =

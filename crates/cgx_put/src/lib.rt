@@ -8,6 +8,7 @@ ghost use Rattle.cgx_put.specs.Put.{put, longsBytes};
 use cgx_numbers::long_bytes;
 use cgx_numbers::short_bytes;
 use cgx_numbers::word_bytes;
+use cgx_numbers::word_of;
 
 // ---- numbers, the high byte first
 
@@ -17,7 +18,7 @@ pub fn put_unsigned(out: &mut [u8], at: usize, n: u16)
     ensures { λ _. ⌜ now (out .exit) ≡ put (now (out .entry)) at (digits 2 n) ⌝ }
 {
     let b = [(n / 256 % 256) as u8, (n % 256) as u8];
-    put_bytes(out, at, &b);
+    put_each(out, at, &b);
 }
 
 pub fn put_short(out: &mut [u8], at: usize, n: i16)
@@ -25,7 +26,7 @@ pub fn put_short(out: &mut [u8], at: usize, n: i16)
     ensures { λ _. ⌜ now (out .exit) ≡ put (now (out .entry)) at (shortBytes n) ⌝ }
 {
     let b = short_bytes(n);
-    put_bytes(out, at, &b);
+    put_each(out, at, &b);
 }
 
 pub fn put_long(out: &mut [u8], at: usize, n: i32)
@@ -33,7 +34,7 @@ pub fn put_long(out: &mut [u8], at: usize, n: i32)
     ensures { λ _. ⌜ now (out .exit) ≡ put (now (out .entry)) at (longBytes n) ⌝ }
 {
     let b = long_bytes(n);
-    put_bytes(out, at, &b);
+    put_each(out, at, &b);
 }
 
 pub fn put_longs(out: &mut [u8], at: usize, ns: &[i32])
@@ -48,19 +49,44 @@ pub fn put_longs(out: &mut [u8], at: usize, ns: &[i32])
     }
 }
 
-// The eight bytes of a real.
+// The eight bytes of a real, or of a word that is copied.
 pub fn put_word(out: &mut [u8], at: usize, w: u64)
     requires { ⌜ at + 8 ≤ length (now out) ⌝ }
     ensures { λ _. ⌜ now (out .exit) ≡ put (now (out .entry)) at (digits 8 w) ⌝ }
 {
     let b = word_bytes(w);
-    put_bytes(out, at, &b);
+    put_each(out, at, &b);
 }
 
 // ---- bytes
 
-// No branch stands in the loop, so that it is compiled to a vector loop.
+// 8 to 128 bytes go by words, the last of which may overlap the one before it: a vector loop stores what its vectors leave over
+// byte by byte, and of so few bytes that is most of the work.
 pub fn put_bytes(out: &mut [u8], at: usize, src: &[u8])
+    requires { ⌜ at + length (now src) ≤ length (now out) ⌝ }
+    ensures { λ _. ⌜ now (out .exit) ≡ put (now (out .entry)) at (now (src .entry)) ⌝ }
+{
+    let n = src.len();
+    if n < 8 {
+        put_each(out, at, src);
+        return;
+    }
+    if 128 < n {
+        put_each(out, at, src);
+        return;
+    }
+    let last = n - 8;
+    let mut i = 0;
+    while i < last {
+        let end = i + 8;
+        put_word(out, at + i, word_of(&src[i..end]));
+        i = end;
+    }
+    put_word(out, at + last, word_of(&src[last..]));
+}
+
+// No branch stands in the loop, so that it is compiled to a vector loop.
+fn put_each(out: &mut [u8], at: usize, src: &[u8])
     requires { ⌜ at + length (now src) ≤ length (now out) ⌝ }
     ensures { λ _. ⌜ now (out .exit) ≡ put (now (out .entry)) at (now (src .entry)) ⌝ }
 {

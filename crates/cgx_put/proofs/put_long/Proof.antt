@@ -11,11 +11,11 @@ use Rattle.cgx_put.proofs.put_long.Tie as tie
 long-bytes-requires : tie.Need-long-bytes-requires
 long-bytes-requires c κs = search needs
 
-slice-aggregate-put-bytes : tie.Need-slice-aggregate-put-bytes
-slice-aggregate-put-bytes c = search needs
+slice-aggregate-put-each : tie.Need-slice-aggregate-put-each
+slice-aggregate-put-each c = search needs
 
-put-bytes-requires : tie.Need-put-bytes-requires
-put-bytes-requires c κs = search needs
+put-each-requires : tie.Need-put-each-requires
+put-each-requires c κs = search needs
 
 same-length : tie.Need-same-length
 same-length c = search needs
@@ -25,8 +25,8 @@ returns c =
     let f = c .before .before in
     let s = f .before .before .before .before .before in
     let a = s .args in
-    f .put-bytes .ensures ∙ ap (put (a .out .now) (a .at)) (f .before .before .before .long-bytes .ensures ∙ ap longBytes (back w32 (s .fits .n .sfits)))
+    f .put-each .ensures ∙ ap (put (a .out .now) (a .at)) (f .before .before .before .long-bytes .ensures ∙ ap longBytes (back w32 (s .fits .n .sfits)))
 
 pub put-long-spec : {M : Type 1} → statement M
 put-long-spec =
-    tie.close (tie.spec long-bytes-requires slice-aggregate-put-bytes put-bytes-requires same-length returns)
+    tie.close (tie.spec long-bytes-requires slice-aggregate-put-each put-each-requires same-length returns)

@@ -8,11 +8,11 @@ use Rattle.cgx_put.proofs.put_word.Tie as tie
 word-bytes-requires : tie.Need-word-bytes-requires
 word-bytes-requires c κs = search needs
 
-slice-aggregate-put-bytes : tie.Need-slice-aggregate-put-bytes
-slice-aggregate-put-bytes c = search needs
+slice-aggregate-put-each : tie.Need-slice-aggregate-put-each
+slice-aggregate-put-each c = search needs
 
-put-bytes-requires : tie.Need-put-bytes-requires
-put-bytes-requires c κs = search needs
+put-each-requires : tie.Need-put-each-requires
+put-each-requires c κs = search needs
 
 same-length : tie.Need-same-length
 same-length c = search needs
@@ -22,8 +22,8 @@ returns c =
     let f = c .before .before in
     let s = f .before .before .before .before .before in
     let a = s .args in
-    f .put-bytes .ensures ∙ ap (put (a .out .now) (a .at)) (f .before .before .before .word-bytes .ensures)
+    f .put-each .ensures ∙ ap (put (a .out .now) (a .at)) (f .before .before .before .word-bytes .ensures)
 
 pub put-word-spec : {M : Type 1} → statement M
 put-word-spec =
-    tie.close (tie.spec word-bytes-requires slice-aggregate-put-bytes put-bytes-requires same-length returns)
+    tie.close (tie.spec word-bytes-requires slice-aggregate-put-each put-each-requires same-length returns)
