@@ -2,12 +2,14 @@
 ghost use mathlib.Core.Path.{_≡_};
 ghost use Rattle.cgx_spec.specs.Numbers.{Bytes};
 ghost use Rattle.cgx_spec.specs.Files.{verdictOf};
-use cgx_records::start_context;
+use cgx_phases::Phase;
+use cgx_phases::fault_behind;
+use cgx_phases::has_ended;
+use cgx_phases::phase_after;
 use cgx_spec::Verdict;
-use cgx_steps::Stepped;
-use cgx_steps::context_after;
+use cgx_steps::Head;
+use cgx_steps::head_at;
 use cgx_steps::opening_fault;
-use cgx_steps::step_at;
 
 // The verdict on a file: accepted, or the number and the place of its refusal. (A slice holds bytes, which is what demand 3 asks of a file.)
 pub fn check(file: &[u8]) -> Verdict
@@ -18,16 +20,29 @@ pub fn check(file: &[u8]) -> Verdict
     if number != 0 {
         return Verdict::Refused { number, at: 0 };
     }
-    let mut c = start_context();
+    let mut p = Phase::Start;
     let mut at: usize = 4;
     loop {
-        let found = step_at(file, c, at);
-        match found {
-            Stepped::Stop(v) => {
-                return v;
+        if has_ended(p) {
+            if at == file.len() {
+                return Verdict::Accepted;
             }
-            Stepped::Go(n) => {
-                c = context_after(c, at, file[at + 2]);
+            return Verdict::Refused { number: 13, at };
+        }
+        let found = head_at(file, at);
+        match found {
+            Head::Bad(number) => {
+                return Verdict::Refused { number, at };
+            }
+            Head::Sized(n) => {
+                let from = at + 4;
+                let to = at + n;
+                let t = file[at + 2];
+                p = phase_after(p, t);
+                let number = fault_behind(p, t, file[at + 3], &file[from..to]);
+                if number != 0 {
+                    return Verdict::Refused { number, at };
+                }
                 at += n;
             }
         }

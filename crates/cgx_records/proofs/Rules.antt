@@ -29,38 +29,48 @@ last-type t h q0 q1 q2 q3 q4 q5 q6 q7 q8 q9 =
     ten : (n : ℕ) → n < 11 → 10 ≤ n → n ≡ 10
     ten n a b = omega arith
 
-module _ (c : Context) (t fl : ℕ) (b : List ℕ) where
+-- of a record that may stand where it does by a test of its kind
+module _ (here : Option Kind → Bool) (t fl : ℕ) (b : List ℕ) where
   abbrev fault : Option Kind → ℕ
-  fault o = numberOr0 (broken (rules (allowed c o) o (record { type = t; flags = fl; body = b })))
+  fault o = numberOr0 (broken (rules (here o) o (record { type = t; flags = fl; body = b })))
 
   module _ {k : Kind} (e : kindOf t ≡ some k) where
     abbrev one : Bool → Bool → ℕ
     one x y = numberOr0 (broken (rule 6 x ∷ rule 7 y ∷ fieldRules (pieces (layout k fl) b)))
 
-    by-kind : fault (kindOf t) ≡ one (allowed c (some k)) (goodFlags k fl)
+    by-kind : fault (kindOf t) ≡ one (here (some k)) (goodFlags k fl)
     unfolding rules piecesOf
     by-kind = ap fault e
 
-    pub rule-6 : {v : Bool} → v ≡ allowed c (some k) → v ≡ false → 6 ≡ fault (kindOf t)
+    pub rule-6 : {v : Bool} → v ≡ here (some k) → v ≡ false → 6 ≡ fault (kindOf t)
     unfolding broken
     rule-6 a f = sym (by-kind ∙ ap (λ (x : Bool). one x (goodFlags k fl)) (sym a ∙ f))
 
-    pub rule-7 : {v w : Bool} → v ≡ allowed c (some k) → v ≡ true → w ≡ goodFlags k fl → w ≡ false → 7 ≡ fault (kindOf t)
+    pub rule-7 : {v w : Bool} → v ≡ here (some k) → v ≡ true → w ≡ goodFlags k fl → w ≡ false → 7 ≡ fault (kindOf t)
     unfolding broken
     rule-7 a f a' f' = sym (by-kind ∙ ap (λ (x : Bool). one x (goodFlags k fl)) (sym a ∙ f) ∙ ap (one true) (sym a' ∙ f'))
 
-    pub rules-on : {v w : Bool} {r : ℕ} → v ≡ allowed c (some k) → v ≡ true → w ≡ goodFlags k fl → w ≡ true → r ≡ bodyFault k fl b → r ≡ fault (kindOf t)
+    pub rules-on : {v w : Bool} {r : ℕ} → v ≡ here (some k) → v ≡ true → w ≡ goodFlags k fl → w ≡ true → r ≡ bodyFault k fl b → r ≡ fault (kindOf t)
     unfolding broken bodyFault
     rules-on a f a' f' z = z ∙ sym (by-kind ∙ ap (λ (x : Bool). one x (goodFlags k fl)) (sym a ∙ f) ∙ ap (one true) (sym a' ∙ f'))
 
   module _ (h : 11 ≤ t) where
-    pub unknown-good : c .library ≡ true → 0 ≡ fault (kindOf t)
-    unfolding rules broken allowed needsOf
-    unknown-good l = sym (ap fault (unknown-kind t h) ∙ ap (λ (x : Bool). numberOr0 (broken (rule 6 (x && true) ∷ []))) l)
+    by-none : fault (kindOf t) ≡ numberOr0 (broken (rule 6 (here none) ∷ []))
+    unfolding rules
+    by-none = ap fault (unknown-kind t h)
 
-    pub unknown-early : c .library ≡ false → 6 ≡ fault (kindOf t)
-    unfolding rules broken allowed needsOf
-    unknown-early l = sym (ap fault (unknown-kind t h) ∙ ap (λ (x : Bool). numberOr0 (broken (rule 6 (x && true) ∷ []))) l)
+    pub unknown-good : here none ≡ true → 0 ≡ fault (kindOf t)
+    unfolding broken
+    unknown-good l = sym (by-none ∙ ap (λ (x : Bool). numberOr0 (broken (rule 6 x ∷ []))) l)
+
+    pub unknown-early : here none ≡ false → 6 ≡ fault (kindOf t)
+    unfolding broken
+    unknown-early l = sym (by-none ∙ ap (λ (x : Bool). numberOr0 (broken (rule 6 x ∷ []))) l)
+
+-- an unknown record needs a LIBRARY before it
+pub unknown-needs : (c : Context) {v : Bool} → c .library ≡ v → allowed c none ≡ v
+unfolding allowed needsOf
+unknown-needs c {v} l = and-true (c .library) ∙ l
 
 -- ---- needs, as `every` has them
 

@@ -99,7 +99,7 @@ fn awaits(r: Run) -> bool
 }
 
 // Rule 7.
-fn flags_good(k: Kind, fl: u8) -> bool
+pub fn flags_good(k: Kind, fl: u8) -> bool
     ensures { λ r. ⌜ r ≡ goodFlags k fl ⌝ }
 {
     match k {
@@ -118,7 +118,7 @@ fn flags_good(k: Kind, fl: u8) -> bool
 }
 
 // The rules 8 to 12.
-fn body_fault(k: Kind, fl: u8, b: &[u8]) -> u8
+pub fn body_fault(k: Kind, fl: u8, b: &[u8]) -> u8
     requires { ⌜ Body (now b) ⌝ }
     ensures { λ r. ⌜ r ≡ bodyFault k fl (now (b .entry)) ⌝ }
 {

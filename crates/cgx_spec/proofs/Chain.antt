@@ -133,7 +133,7 @@ met-is c LayerInForce = refl
 met-is c NoneAwaiting = refl
 met-is c OnlyCprpty = refl
 
-may-is : (c : Context) (o : Option Kind) → allowed c o ≡ may (stateOf c) o
+pub may-is : (c : Context) (o : Option Kind) → allowed c o ≡ may (stateOf c) o
 unfolding allowed may
 may-is c o = each (needsOf o)
   where
@@ -145,7 +145,7 @@ waits-on : (r : Run) (at : ℕ) → awaiting (longer r at) ≡ true
 waits-on Empty at = refl
 waits-on (Of first count) at = refl
 
-then-is : (c : Context) (at : ℕ) (o : Option Kind) → stateOf (next c at o) ≡ then (stateOf c) o
+pub then-is : (c : Context) (at : ℕ) (o : Option Kind) → stateOf (next c at o) ≡ then (stateOf c) o
 unfolding next then
 then-is c at none = refl
 then-is c at (some Library) = refl

@@ -1,25 +1,20 @@
--- The invariant: the verdict on the file is that of the walk from here on.
-use Rattle.cgx_steps.proofs.Heads.{opening-long}
-use Rattle.cgx_steps.proofs.Walks.{start-waiting, began, not-begun, next-waiting, held, walk-stop, walk-go}
-use mathlib.Core.Path.{_≡_, sym, ap, _∙_}
+-- The invariant: a context that fits the phase, and the verdict of the walk from here on is the file's (`Turns`).
+use mathlib.Core.Path.{_≡_, sym, _∙_}
 use native.Mathlib.Omega.{arith}
 use borrow.Author.Needs.{needs}
-use Prim.Native.Nat.{_+_, _-_, _≤_}
-use lib.ListN.{length, getD}
-use Rattle.cgx_spec.specs.declared.Context.{Context}
-use Rattle.cgx_spec.specs.Kinds.{kindOf}
-use Rattle.cgx_records.specs.Faults.{waiting}
-use Rattle.cgx_spec.specs.Files.{verdictOf}
-use Rattle.cgx_spec.specs.Walking.{walkFrom}
-use Rattle.cgx_steps.proofs.Walks.{start-waiting, began, not-begun, next-waiting, held, walk-stop, walk-go}
+use Prim.Native.Nat.{_-_}
+use lib.ListN.{length}
+use Rattle.cgx_steps.proofs.Heads.{head-held, held-body}
+use Rattle.cgx_steps.proofs.Walks.{not-begun}
+use Rattle.cgx_check.proofs.Turns.{On, on-start, on-done, on-more, on-bad, on-broken, on-next}
 use Rattle.cgx_check.proofs.check.Statement.{statement}
 use Rattle.cgx_check.proofs.check.Tie as tie
 
 abbrev Inv-loop : tie.InvT-loop
-Inv-loop file number c₀ at₀ c at = (at ≤ length file) × (waiting (c .run) ≤ at) × (verdictOf file ≡ walkFrom file c at .verdict)
+Inv-loop file number p₀ at₀ p at = On file p at
 
 abbrev μ-loop : tie.MeasureT-loop
-μ-loop file number c₀ at₀ c at = length file - at
+μ-loop file number p₀ at₀ p at = length file - at
 
 opening-fault-requires : tie.Need-opening-fault-requires Inv-loop μ-loop
 opening-fault-requires c κs = search needs
@@ -27,41 +22,74 @@ opening-fault-requires c κs = search needs
 returns : tie.Need-returns Inv-loop μ-loop
 returns c = (not-begun (c .before .before .before .args .file .now) _ (c .before .opening-fault .ensures) (c .if1 .taken), λ i. c .before .before .shared-slice-known .given i .fits)
 
-start-context-requires : tie.Need-start-context-requires Inv-loop μ-loop
-start-context-requires c κs = search needs
-
 loop-holds : tie.Need-loop-holds Inv-loop μ-loop
-loop-holds c = (opening-long (c .before .before .before .before .args .file .now) (sym (c .before .before .opening-fault .ensures) ∙ c .before .if1 .left), start-waiting (c .start-context .ensures), began (c .before .before .before .before .args .file .now) (sym (c .before .before .opening-fault .ensures) ∙ c .before .if1 .left) ∙ ap (λ (x : Context). walkFrom (c .before .before .before .before .args .file .now) x 4 .verdict) (sym (c .start-context .ensures)))
+loop-holds c = on-start (c .before .before .before .args .file .now) (sym (c .before .opening-fault .ensures) ∙ c .if1 .left)
 
-step-at-requires : tie.Need-step-at-requires Inv-loop μ-loop
-step-at-requires c κs = search needs
+has-ended-requires : tie.Need-has-ended-requires Inv-loop μ-loop
+has-ended-requires c κs = search needs
+
+returns-2 : tie.Need-returns-2 Inv-loop μ-loop
+returns-2 c = (on-done (c .before .before .before .before .before .before .before .args .file .now) (c .before .before .before .loop .p) (c .before .before .before .loop .at) (c .before .before .before .loop .inv) (sym (c .before .before .has-ended .ensures) ∙ c .before .if2 .taken) (c .if3 .taken), λ i. c .before .before .before .before .before .before .shared-slice-known .given i .fits)
+
+returns-3 : tie.Need-returns-3 Inv-loop μ-loop
+returns-3 c = (on-more (c .before .before .before .before .before .before .before .args .file .now) (c .before .before .before .loop .p) (c .before .before .before .loop .at) (c .before .before .before .loop .inv) (sym (c .before .before .has-ended .ensures) ∙ c .before .if2 .taken) (c .if3 .left), λ i. c .before .before .before .before .before .before .shared-slice-known .given i .fits)
+
+head-at-requires : tie.Need-head-at-requires Inv-loop μ-loop
+head-at-requires c κs = (c .before .before .loop .inv) .inside
 
 enum-known-found : tie.Need-enum-known-found Inv-loop μ-loop
 enum-known-found c = search needs
 
-returns-2 : tie.Need-returns-2 Inv-loop μ-loop
-returns-2 c = (walk-stop (c .before .before .before .before .before .before .before .before .before .args .file .now) (c .before .before .before .before .loop .c) (c .before .before .before .before .loop .at) (c .before .before .before .step-at .ensures) (c .before .before .before .before .loop .inv .2) (c .before .found .given .1), λ i. c .before .before .before .before .before .before .before .before .shared-slice-known .given i .fits)
+returns-4 : tie.Need-returns-4 Inv-loop μ-loop
+returns-4 c = (on-bad (c .before .before .before .before .before .before .before .before .before .before .args .file .now) (c .before .before .before .before .before .before .loop .p) (c .before .before .before .before .before .before .loop .at) (c .before .before .before .before .before .before .loop .inv) (sym (c .before .before .before .before .before .has-ended .ensures) ∙ c .before .before .before .before .if2 .left) (c .before .before .before .head-at .result) (c .before .before .before .head-at .ensures) (c .before .found .given .1), λ i. c .before .before .before .before .before .before .before .before .before .shared-slice-known .given i .fits)
 
 enum-known-found-2 : tie.Need-enum-known-found-2 Inv-loop μ-loop
 enum-known-found-2 c = search needs
 
-add-context-after : tie.Need-add-context-after Inv-loop μ-loop
-add-context-after c = let h = held (c .before .before .before .before .before .before .before .before .before .args .file .now) (c .before .before .before .before .loop .c) (c .before .before .before .before .loop .at) (c .before .before .before .step-at .ensures) (c .before .found2 .given .1) in let a = h .least in let i = h .inside in omega arith
+add-from : tie.Need-add-from Inv-loop μ-loop
+add-from c = let h = head-held (c .before .before .before .before .before .before .before .before .before .before .args .file .now) (c .before .before .before .before .before .before .loop .at) (c .before .before .before .head-at .result) (c .before .before .before .head-at .ensures .1) (c .before .found2 .given .1) in let a = h .least in let i = h .inside in omega arith
 
-shared-slice-read-context-after : tie.Need-shared-slice-read-context-after Inv-loop μ-loop
-shared-slice-read-context-after c = let h = held (c .before .before .before .before .before .before .before .before .before .before .args .file .now) (c .before .before .before .before .before .loop .c) (c .before .before .before .before .before .loop .at) (c .before .before .before .before .step-at .ensures) (c .before .before .found2 .given .1) in let a = h .least in let i = h .inside in omega arith
+add-to : tie.Need-add-to Inv-loop μ-loop
+add-to c = let h = head-held (c .before .before .before .before .before .before .before .before .before .before .args .file .now) (c .before .before .before .before .before .before .loop .at) (c .before .before .before .head-at .result) (c .before .before .before .head-at .ensures .1) (c .before .found2 .given .1) in let a = h .least in let i = h .inside in omega arith
 
-context-after-requires : tie.Need-context-after-requires Inv-loop μ-loop
-context-after-requires c κs = let h = held (c .before .before .before .before .before .before .before .before .before .before .args .file .now) (c .before .before .before .before .before .loop .c) (c .before .before .before .before .before .loop .at) (c .before .before .before .before .step-at .ensures) (c .before .before .found2 .given .1) in let a = h .least in let i = h .inside in omega arith
+add-t : tie.Need-add-t Inv-loop μ-loop
+add-t c = let h = head-held (c .before .before .before .before .before .before .before .before .before .before .args .file .now) (c .before .before .before .before .before .before .loop .at) (c .before .before .before .head-at .result) (c .before .before .before .head-at .ensures .1) (c .before .found2 .given .1) in let a = h .least in let i = h .inside in omega arith
+
+shared-slice-read-t : tie.Need-shared-slice-read-t Inv-loop μ-loop
+shared-slice-read-t c = let h = head-held (c .before .before .before .before .before .before .before .before .before .before .before .args .file .now) (c .before .before .before .before .before .before .before .loop .at) (c .before .before .before .before .head-at .result) (c .before .before .before .before .head-at .ensures .1) (c .before .before .found2 .given .1) in let a = h .least in let i = h .inside in omega arith
+
+phase-after-requires : tie.Need-phase-after-requires Inv-loop μ-loop
+phase-after-requires c κs = search needs
+
+add-fault-behind : tie.Need-add-fault-behind Inv-loop μ-loop
+add-fault-behind c = let h = head-held (c .before .before .before .before .before .before .before .before .before .before .before .before .args .file .now) (c .before .before .before .before .before .before .before .before .loop .at) (c .before .before .before .before .before .head-at .result) (c .before .before .before .before .before .head-at .ensures .1) (c .before .before .before .found2 .given .1) in let a = h .least in let i = h .inside in omega arith
+
+shared-slice-read-fault-behind : tie.Need-shared-slice-read-fault-behind Inv-loop μ-loop
+shared-slice-read-fault-behind c = let h = head-held (c .before .before .before .before .before .before .before .before .before .before .before .before .before .args .file .now) (c .before .before .before .before .before .before .before .before .before .loop .at) (c .before .before .before .before .before .before .head-at .result) (c .before .before .before .before .before .before .head-at .ensures .1) (c .before .before .before .before .found2 .given .1) in let a = h .least in let i = h .inside in omega arith
+
+sub-fault-behind : tie.Need-sub-fault-behind Inv-loop μ-loop
+sub-fault-behind c = let h = head-held (c .before .before .before .before .before .before .before .before .before .before .before .before .before .args .file .now) (c .before .before .before .before .before .before .before .before .before .loop .at) (c .before .before .before .before .before .before .head-at .result) (c .before .before .before .before .before .before .head-at .ensures .1) (c .before .before .before .before .found2 .given .1) in let a = h .least in let i = h .inside in omega arith
+
+part-fault-behind-start : tie.Need-part-fault-behind-start Inv-loop μ-loop
+part-fault-behind-start c = let h = head-held (c .before .before .before .before .before .before .before .before .before .before .before .before .before .args .file .now) (c .before .before .before .before .before .before .before .before .before .loop .at) (c .before .before .before .before .before .before .head-at .result) (c .before .before .before .before .before .before .head-at .ensures .1) (c .before .before .before .before .found2 .given .1) in let a = h .least in let i = h .inside in omega arith
+
+part-fault-behind-end : tie.Need-part-fault-behind-end Inv-loop μ-loop
+part-fault-behind-end c = let h = head-held (c .before .before .before .before .before .before .before .before .before .before .before .before .before .args .file .now) (c .before .before .before .before .before .before .before .before .before .loop .at) (c .before .before .before .before .before .before .head-at .result) (c .before .before .before .before .before .before .head-at .ensures .1) (c .before .before .before .before .found2 .given .1) in let a = h .least in let i = h .inside in omega arith
+
+fault-behind-requires : tie.Need-fault-behind-requires Inv-loop μ-loop
+fault-behind-requires c κs = let h = head-held (c .before .before .before .before .before .before .before .before .before .before .before .before .before .before .args .file .now) (c .before .before .before .before .before .before .before .before .before .before .loop .at) (c .before .before .before .before .before .before .before .head-at .result) (c .before .before .before .before .before .before .before .head-at .ensures .1) (c .before .before .before .before .before .found2 .given .1) in held-body (c .before .before .before .before .before .before .before .before .before .before .before .before .before .before .args .file .now) (c .before .before .before .before .before .before .before .before .before .before .loop .at) _ h
+
+returns-5 : tie.Need-returns-5 Inv-loop μ-loop
+returns-5 c = (on-broken (c .before .before .before .before .before .before .before .before .before .before .before .before .before .before .before .before .args .file .now) (c .before .before .before .before .before .before .before .before .before .before .before .before .loop .p) (c .before .before .before .before .before .before .before .before .before .before .before .before .loop .at) (c .before .before .before .before .before .before .before .before .before .before .before .before .loop .inv) (sym (c .before .before .before .before .before .before .before .before .before .before .before .has-ended .ensures) ∙ c .before .before .before .before .before .before .before .before .before .before .if2 .left) (c .before .before .before .before .before .before .before .before .before .head-at .result) (c .before .before .before .before .before .before .before .before .before .head-at .ensures) (c .before .before .before .before .before .before .before .found2 .given .1) (c .before .before .before .before .phase-after .ensures) (c .before .fault-behind .ensures) (c .if4 .taken), λ i. c .before .before .before .before .before .before .before .before .before .before .before .before .before .before .before .shared-slice-known .given i .fits)
 
 add-at : tie.Need-add-at Inv-loop μ-loop
-add-at c = let h = held (c .before .before .before .before .before .before .before .before .before .before .before .args .file .now) (c .before .before .before .before .before .before .loop .c) (c .before .before .before .before .before .before .loop .at) (c .before .before .before .before .before .step-at .ensures) (c .before .before .before .found2 .given .1) in let a = h .least in let i = h .inside in omega arith
+add-at c = let h = head-held (c .before .before .before .before .before .before .before .before .before .before .before .before .before .before .before .before .args .file .now) (c .before .before .before .before .before .before .before .before .before .before .before .before .loop .at) (c .before .before .before .before .before .before .before .before .before .head-at .result) (c .before .before .before .before .before .before .before .before .before .head-at .ensures .1) (c .before .before .before .before .before .before .before .found2 .given .1) in let a = h .least in let i = h .inside in omega arith
 
 loop-less : tie.Need-loop-less Inv-loop μ-loop
-loop-less c = let h = held (c .before .before .before .before .before .before .before .before .before .before .before .args .file .now) (c .before .before .before .before .before .before .loop .c) (c .before .before .before .before .before .before .loop .at) (c .before .before .before .before .before .step-at .ensures) (c .before .before .before .found2 .given .1) in let a = h .least in let i = h .inside in omega arith
+loop-less c = let h = head-held (c .before .before .before .before .before .before .before .before .before .before .before .before .before .before .before .before .args .file .now) (c .before .before .before .before .before .before .before .before .before .before .before .before .loop .at) (c .before .before .before .before .before .before .before .before .before .head-at .result) (c .before .before .before .before .before .before .before .before .before .head-at .ensures .1) (c .before .before .before .before .before .before .before .found2 .given .1) in let a = h .least in let i = h .inside in omega arith
 
 loop-again : tie.Need-loop-again Inv-loop μ-loop
-loop-again c = let h = held (c .before .before .before .before .before .before .before .before .before .before .before .args .file .now) (c .before .before .before .before .before .before .loop .c) (c .before .before .before .before .before .before .loop .at) (c .before .before .before .before .before .step-at .ensures) (c .before .before .before .found2 .given .1) in let a = h .least in let i = h .inside in let n = next-waiting (c .before .before .before .before .before .before .loop .c) (c .before .before .before .before .before .before .loop .at) (kindOf (getD (c .before .before .before .before .before .before .before .before .before .before .before .args .file .now) (c .before .before .before .before .before .before .loop .at + 2) 0)) in let e = ap (λ (x : Context). waiting (x .run)) (c .context-after .ensures) in (omega arith, omega arith, walk-go (c .before .before .before .before .before .before .before .before .before .before .before .args .file .now) (c .before .before .before .before .before .before .loop .c) (c .before .before .before .before .before .before .loop .at) (c .before .before .before .before .before .step-at .ensures) (c .before .before .before .before .before .before .loop .inv .2) (c .before .before .before .found2 .given .1) (c .context-after .ensures))
+loop-again c = on-next (c .before .before .before .before .before .before .before .before .before .before .before .before .before .before .before .before .args .file .now) (c .before .before .before .before .before .before .before .before .before .before .before .before .loop .p) (c .before .before .before .before .before .before .before .before .before .before .before .before .loop .at) (c .before .before .before .before .before .before .before .before .before .before .before .before .loop .inv) (sym (c .before .before .before .before .before .before .before .before .before .before .before .has-ended .ensures) ∙ c .before .before .before .before .before .before .before .before .before .before .if2 .left) (c .before .before .before .before .before .before .before .before .before .head-at .result) (c .before .before .before .before .before .before .before .before .before .head-at .ensures) (c .before .before .before .before .before .before .before .found2 .given .1) (c .before .before .before .before .phase-after .ensures) (c .before .fault-behind .ensures) (c .if4 .left)
 
 pub check-spec : {M : Type 1} → statement M
 check-spec =
@@ -71,15 +99,26 @@ check-spec =
     μ-loop
     opening-fault-requires
     returns
-    start-context-requires
     loop-holds
-    step-at-requires
-    enum-known-found
+    has-ended-requires
     returns-2
+    returns-3
+    head-at-requires
+    enum-known-found
+    returns-4
     enum-known-found-2
-    add-context-after
-    shared-slice-read-context-after
-    context-after-requires
+    add-from
+    add-to
+    add-t
+    shared-slice-read-t
+    phase-after-requires
+    add-fault-behind
+    shared-slice-read-fault-behind
+    sub-fault-behind
+    part-fault-behind-start
+    part-fault-behind-end
+    fault-behind-requires
+    returns-5
     add-at
     loop-less
     loop-again)

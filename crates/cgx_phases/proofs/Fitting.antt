@@ -1,0 +1,170 @@
+-- A phase is what rule 6 sees of a context: it refuses the same records, and goes on with the context. Assumes nothing.
+use mathlib.Core.Path.{_≡_, refl, sym, ap, ap₂, _∙_, subst}
+use mathlib.Core.Bool.{Bool, true, false, cond}
+use mathlib.Core.Option.{Option, none, some}
+use Prim.Native.Nat.{ℕ}
+use lib.Dec.{T}
+use native.Mathlib.Omega.{arith}
+use Rattle.cgx_spec.specs.declared.Kind.{Kind}
+use Rattle.cgx_spec.specs.declared.Kind.the-variants.{Library as LIBRARY, Struct as STRUCT, Cprpty as CPRPTY, Property as PROPERTY, Layer as LAYER, Box as BOX, Poly as POLY, Wire as WIRE, Text as TEXT, Sref as SREF, Endlib as ENDLIB}
+use Rattle.cgx_spec.specs.declared.Context.{Context}
+use Rattle.cgx_spec.specs.Kinds.{kindOf}
+use Rattle.cgx_spec.specs.Order.{start, needsOf, allowed, next}
+use Rattle.cgx_spec.specs.Records.{Rec, broken, rules}
+use Rattle.cgx_spec.proofs.Chain.{State, stateOf, may, then, may-is, then-is}
+use Rattle.cgx_bodies.specs.Bodies.{numberOr0}
+use Rattle.cgx_records.specs.Faults.{recordFault}
+use Rattle.cgx_phases.specs.declared.Phase.{Phase}
+use Rattle.cgx_phases.specs.declared.Phase.the-variants.{Start, Library, Fresh, Cell, Layer, CellRun, LayerRun, Ended, Refused}
+use Rattle.cgx_phases.specs.Phases.{row, isEnded, standing, afterPhase, faultBehind}
+
+-- ---- what a phase says
+
+-- library, cell, layer, fresh, waiting, ended
+abbrev state : Bool → Bool → Bool → Bool → Bool → Bool → State
+state l c y f w e = record { library = l; cell = c; layer = y; fresh = f; waiting = w; ended = e }
+
+abbrev stateIn : Phase → Option State
+stateIn =
+    row
+    (some (state false false false false false false))
+    (some (state true false false false false false))
+    (some (state true true false true false false))
+    (some (state true true false false false false))
+    (some (state true true true false false false))
+    (some (state true true false false true false))
+    (some (state true true true false true false))
+    (some (state false false false false false true))
+    none
+
+-- behind ENDLIB rule 6 is asked no more, so that the phase is one whatever was open
+abbrev seen : State → State
+seen s = cond (s .ended) (state false false false false false true) s
+
+unfoldable pub Fits : Phase → Context → Type 0
+Fits p c = some (seen (stateOf c)) ≡ stateIn p
+
+pub fits-start : Fits Start start
+unfolding Fits start
+fits-start = refl
+
+-- ---- the table
+
+-- where a record may stand, the state behind it
+abbrev onward : Option State → Option Kind → Option State
+onward none o = none
+onward (some s) o = cond (may s o) (some (seen (then s o))) none
+
+abbrev Agrees : Phase → Option Kind → Type 0
+Agrees p o = onward (stateIn p) o ≡ stateIn (afterPhase p o)
+
+each-kind : (q : Phase) → Agrees q none → Agrees q (some LIBRARY) → Agrees q (some STRUCT) → Agrees q (some CPRPTY) → Agrees q (some PROPERTY) → Agrees q (some LAYER) → Agrees q (some BOX) → Agrees q (some POLY) → Agrees q (some WIRE) → Agrees q (some TEXT) → Agrees q (some SREF) → Agrees q (some ENDLIB) → (o : Option Kind) → Agrees q o
+each-kind q u l s c p y b o w t r e none = u
+each-kind q u l s c p y b o w t r e (some LIBRARY) = l
+each-kind q u l s c p y b o w t r e (some STRUCT) = s
+each-kind q u l s c p y b o w t r e (some CPRPTY) = c
+each-kind q u l s c p y b o w t r e (some PROPERTY) = p
+each-kind q u l s c p y b o w t r e (some LAYER) = y
+each-kind q u l s c p y b o w t r e (some BOX) = b
+each-kind q u l s c p y b o w t r e (some POLY) = o
+each-kind q u l s c p y b o w t r e (some WIRE) = w
+each-kind q u l s c p y b o w t r e (some TEXT) = t
+each-kind q u l s c p y b o w t r e (some SREF) = r
+each-kind q u l s c p y b o w t r e (some ENDLIB) = e
+
+-- the table is rule 6 and what follows from a record, of the states, by computation
+table : (p : Phase) → isEnded p ≡ false → (o : Option Kind) → Agrees p o
+unfolding may then needsOf
+table Start e = each-kind Start refl refl refl refl refl refl refl refl refl refl refl refl
+table Library e = each-kind Library refl refl refl refl refl refl refl refl refl refl refl refl
+table Fresh e = each-kind Fresh refl refl refl refl refl refl refl refl refl refl refl refl
+table Cell e = each-kind Cell refl refl refl refl refl refl refl refl refl refl refl refl
+table Layer e = each-kind Layer refl refl refl refl refl refl refl refl refl refl refl refl
+table CellRun e = each-kind CellRun refl refl refl refl refl refl refl refl refl refl refl refl
+table LayerRun e = each-kind LayerRun refl refl refl refl refl refl refl refl refl refl refl refl
+table Ended e = absurd (subst T e tt)
+table Refused e = each-kind Refused refl refl refl refl refl refl refl refl refl refl refl refl
+
+-- ---- the laws
+
+abbrev over : Option State → Bool
+over none = false
+over (some s) = s .ended
+
+abbrev stood : Option State → Bool
+stood none = false
+stood (some s) = true
+
+ended-in : (p : Phase) → over (stateIn p) ≡ isEnded p
+ended-in Start = refl
+ended-in Library = refl
+ended-in Fresh = refl
+ended-in Cell = refl
+ended-in Layer = refl
+ended-in CellRun = refl
+ended-in LayerRun = refl
+ended-in Ended = refl
+ended-in Refused = refl
+
+stands-in : (p : Phase) → stood (stateIn p) ≡ standing p
+stands-in Start = refl
+stands-in Library = refl
+stands-in Fresh = refl
+stands-in Cell = refl
+stands-in Layer = refl
+stands-in CellRun = refl
+stands-in LayerRun = refl
+stands-in Ended = refl
+stands-in Refused = refl
+
+seen-ended : (s : State) → seen s .ended ≡ s .ended
+seen-ended s = go (s .ended) refl
+  where
+    go : (b : Bool) → s .ended ≡ b → cond b (state false false false false false true) s .ended ≡ s .ended
+    go true e = sym e
+    go false e = refl
+
+stands-when : (b : Bool) (s : State) → stood (cond b (some s) none) ≡ b
+stands-when true s = refl
+stands-when false s = refl
+
+module _ (p : Phase) (c : Context) (f : Fits p c) where
+  pub ended-is : c .ended ≡ isEnded p
+  unfolding Fits
+  ended-is = sym (seen-ended (stateOf c)) ∙ ap over f ∙ ended-in p
+
+  module _ (e : isEnded p ≡ false) where
+    going : some (stateOf c) ≡ stateIn p
+    unfolding Fits
+    going = ap (λ (b : Bool). some (cond b (state false false false false false true) (stateOf c))) (sym (ended-is ∙ e)) ∙ f
+
+    module _ (at : ℕ) (o : Option Kind) where
+      on : cond (allowed c o) (some (seen (stateOf (next c at o)))) none ≡ stateIn (afterPhase p o)
+      on =
+          ap₂ (λ (b : Bool) (s : State). cond b (some (seen s)) none) (may-is c o) (then-is c at o)
+          ∙ ap (λ (s : Option State). onward s o) going
+          ∙ table p e o
+
+      -- rule 6
+      pub allowed-is : allowed c o ≡ standing (afterPhase p o)
+      allowed-is = sym (stands-when (allowed c o) (seen (stateOf (next c at o)))) ∙ ap stood on ∙ stands-in (afterPhase p o)
+
+      -- and what follows
+      pub fits-on : allowed c o ≡ true → Fits (afterPhase p o) (next c at o)
+      unfolding Fits
+      fits-on a = ap (λ (b : Bool). cond b (some (seen (stateOf (next c at o)))) none) (sym a) ∙ on
+
+    pub fault-is : (r : Rec) → faultBehind (afterPhase p (kindOf (r .type))) r ≡ recordFault c r
+    fault-is r = ap (λ (b : Bool). numberOr0 (broken (rules b (kindOf (r .type)) r))) (sym (allowed-is 0 (kindOf (r .type))))
+
+-- rule 6 comes first
+pub first-6 : (here : Bool) (o : Option Kind) (r : Rec) → here ≡ false → 6 ≡ numberOr0 (broken (rules here o r))
+unfolding rules broken
+first-6 true o r e = absurd (subst T e tt)
+first-6 false none r e = refl
+first-6 false (some k) r e = refl
+
+-- so that a record that breaks no rule may stand where it does
+pub stood-by : (here : Bool) (o : Option Kind) (r : Rec) → 0 ≡ numberOr0 (broken (rules here o r)) → here ≡ true
+stood-by true o r e = refl
+stood-by false o r e = absurd (let z = first-6 false o r refl in omega arith)

@@ -1,0 +1,255 @@
+// Phases: what rule 6 sees of a context, as one small value. The whole-file check needs no offsets, and goes from record to record with
+// a phase.
+ghost use mathlib.Core.Path.{_≡_};
+ghost use Rattle.cgx_spec.specs.Kinds.{kindOf};
+ghost use mathlib.Core.Option.{some};
+ghost use Rattle.cgx_bodies.specs.Bodies.{Body};
+ghost use Rattle.cgx_phases.specs.Phases.{isEnded, standing, afterUnknown, afterLibrary, afterStruct, afterCprpty, afterProperty, afterLayer, afterShape, afterSref, afterEndlib, afterPhase, faultBehind};
+use cgx_records::body_fault;
+use cgx_records::flags_good;
+use cgx_records::kind_of;
+use cgx_spec::Kind;
+
+pub enum Phase {
+    // Nothing has been read.
+    Start,
+    // LIBRARY, and no cell is open.
+    Library,
+    // A cell is open, with only CPRPTY records since its STRUCT.
+    Fresh,
+    // A cell is open, and no layer is in force.
+    Cell,
+    // A layer is in force.
+    Layer,
+    // As Cell and Layer, with PROPERTY records that await their object.
+    CellRun,
+    LayerRun,
+    // ENDLIB has been read.
+    Ended,
+    // A record stands where it may not.
+    Refused,
+}
+
+pub fn has_ended(p: Phase) -> bool
+    ensures { λ r. ⌜ r ≡ isEnded p ⌝ }
+{
+    match p {
+        Phase::Start => false,
+        Phase::Library => false,
+        Phase::Fresh => false,
+        Phase::Cell => false,
+        Phase::Layer => false,
+        Phase::CellRun => false,
+        Phase::LayerRun => false,
+        Phase::Ended => true,
+        Phase::Refused => false,
+    }
+}
+
+// The first of the rules 6 to 12 that a record breaks, or 0, where p is the phase behind it.
+pub fn fault_behind(p: Phase, t: u8, fl: u8, b: &[u8]) -> u8
+    requires { ⌜ Body (now b) ⌝ }
+    ensures { λ r. ⌜ r ≡ faultBehind p (record { type = t; flags = fl; body = now (b .entry) }) ⌝ }
+{
+    if !stands(p) {
+        return 6;
+    }
+    if t < 11 {
+        let k = kind_of(t);
+        if !flags_good(k, fl) {
+            return 7;
+        }
+        return body_fault(k, fl, b);
+    }
+    0
+}
+
+fn stands(p: Phase) -> bool
+    ensures { λ r. ⌜ r ≡ standing p ⌝ }
+{
+    match p {
+        Phase::Start => true,
+        Phase::Library => true,
+        Phase::Fresh => true,
+        Phase::Cell => true,
+        Phase::Layer => true,
+        Phase::CellRun => true,
+        Phase::LayerRun => true,
+        Phase::Ended => true,
+        Phase::Refused => false,
+    }
+}
+
+// The phase behind a record of any type; Refused where it may not stand.
+pub fn phase_after(p: Phase, t: u8) -> Phase
+    ensures { λ r. ⌜ r ≡ afterPhase p (kindOf t) ⌝ }
+{
+    if t < 11 {
+        return after_known(p, kind_of(t));
+    }
+    after_unknown(p)
+}
+
+fn after_known(p: Phase, k: Kind) -> Phase
+    ensures { λ r. ⌜ r ≡ afterPhase p (some k) ⌝ }
+{
+    match k {
+        Kind::Library => after_library(p),
+        Kind::Struct => after_struct(p),
+        Kind::Cprpty => after_cprpty(p),
+        Kind::Property => after_property(p),
+        Kind::Layer => after_layer(p),
+        Kind::Box => after_shape(p),
+        Kind::Poly => after_shape(p),
+        Kind::Wire => after_shape(p),
+        Kind::Text => after_shape(p),
+        Kind::Sref => after_sref(p),
+        Kind::Endlib => after_endlib(p),
+    }
+}
+
+// An unknown record changes nothing, but may not stand before LIBRARY.
+fn after_unknown(p: Phase) -> Phase
+    ensures { λ r. ⌜ r ≡ afterUnknown p ⌝ }
+{
+    match p {
+        Phase::Start => Phase::Refused,
+        Phase::Library => p,
+        Phase::Fresh => p,
+        Phase::Cell => p,
+        Phase::Layer => p,
+        Phase::CellRun => p,
+        Phase::LayerRun => p,
+        Phase::Ended => p,
+        Phase::Refused => p,
+    }
+}
+
+fn after_library(p: Phase) -> Phase
+    ensures { λ r. ⌜ r ≡ afterLibrary p ⌝ }
+{
+    match p {
+        Phase::Start => Phase::Library,
+        Phase::Library => Phase::Refused,
+        Phase::Fresh => Phase::Refused,
+        Phase::Cell => Phase::Refused,
+        Phase::Layer => Phase::Refused,
+        Phase::CellRun => Phase::Refused,
+        Phase::LayerRun => Phase::Refused,
+        Phase::Ended => Phase::Refused,
+        Phase::Refused => Phase::Refused,
+    }
+}
+
+fn after_struct(p: Phase) -> Phase
+    ensures { λ r. ⌜ r ≡ afterStruct p ⌝ }
+{
+    match p {
+        Phase::Start => Phase::Refused,
+        Phase::Library => Phase::Fresh,
+        Phase::Fresh => Phase::Fresh,
+        Phase::Cell => Phase::Fresh,
+        Phase::Layer => Phase::Fresh,
+        Phase::CellRun => Phase::Refused,
+        Phase::LayerRun => Phase::Refused,
+        Phase::Ended => Phase::Refused,
+        Phase::Refused => Phase::Refused,
+    }
+}
+
+fn after_cprpty(p: Phase) -> Phase
+    ensures { λ r. ⌜ r ≡ afterCprpty p ⌝ }
+{
+    match p {
+        Phase::Start => Phase::Refused,
+        Phase::Library => Phase::Refused,
+        Phase::Fresh => Phase::Fresh,
+        Phase::Cell => Phase::Refused,
+        Phase::Layer => Phase::Refused,
+        Phase::CellRun => Phase::Refused,
+        Phase::LayerRun => Phase::Refused,
+        Phase::Ended => Phase::Refused,
+        Phase::Refused => Phase::Refused,
+    }
+}
+
+fn after_property(p: Phase) -> Phase
+    ensures { λ r. ⌜ r ≡ afterProperty p ⌝ }
+{
+    match p {
+        Phase::Start => Phase::Refused,
+        Phase::Library => Phase::Refused,
+        Phase::Fresh => Phase::CellRun,
+        Phase::Cell => Phase::CellRun,
+        Phase::Layer => Phase::LayerRun,
+        Phase::CellRun => Phase::CellRun,
+        Phase::LayerRun => Phase::LayerRun,
+        Phase::Ended => Phase::Refused,
+        Phase::Refused => Phase::Refused,
+    }
+}
+
+fn after_layer(p: Phase) -> Phase
+    ensures { λ r. ⌜ r ≡ afterLayer p ⌝ }
+{
+    match p {
+        Phase::Start => Phase::Refused,
+        Phase::Library => Phase::Refused,
+        Phase::Fresh => Phase::Layer,
+        Phase::Cell => Phase::Layer,
+        Phase::Layer => Phase::Layer,
+        Phase::CellRun => Phase::Refused,
+        Phase::LayerRun => Phase::Refused,
+        Phase::Ended => Phase::Refused,
+        Phase::Refused => Phase::Refused,
+    }
+}
+
+// BOX, POLY, WIRE and TEXT.
+fn after_shape(p: Phase) -> Phase
+    ensures { λ r. ⌜ r ≡ afterShape p ⌝ }
+{
+    match p {
+        Phase::Start => Phase::Refused,
+        Phase::Library => Phase::Refused,
+        Phase::Fresh => Phase::Refused,
+        Phase::Cell => Phase::Refused,
+        Phase::Layer => Phase::Layer,
+        Phase::CellRun => Phase::Refused,
+        Phase::LayerRun => Phase::Layer,
+        Phase::Ended => Phase::Refused,
+        Phase::Refused => Phase::Refused,
+    }
+}
+
+fn after_sref(p: Phase) -> Phase
+    ensures { λ r. ⌜ r ≡ afterSref p ⌝ }
+{
+    match p {
+        Phase::Start => Phase::Refused,
+        Phase::Library => Phase::Refused,
+        Phase::Fresh => Phase::Cell,
+        Phase::Cell => Phase::Cell,
+        Phase::Layer => Phase::Layer,
+        Phase::CellRun => Phase::Cell,
+        Phase::LayerRun => Phase::Layer,
+        Phase::Ended => Phase::Refused,
+        Phase::Refused => Phase::Refused,
+    }
+}
+
+fn after_endlib(p: Phase) -> Phase
+    ensures { λ r. ⌜ r ≡ afterEndlib p ⌝ }
+{
+    match p {
+        Phase::Start => Phase::Refused,
+        Phase::Library => Phase::Ended,
+        Phase::Fresh => Phase::Ended,
+        Phase::Cell => Phase::Ended,
+        Phase::Layer => Phase::Ended,
+        Phase::CellRun => Phase::Refused,
+        Phase::LayerRun => Phase::Refused,
+        Phase::Ended => Phase::Refused,
+        Phase::Refused => Phase::Refused,
+    }
+}
