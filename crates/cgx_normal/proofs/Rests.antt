@@ -1,13 +1,12 @@
--- The records of an accepted file from an offset on, and the turns of the maker's two loops. Assumes nothing.
+-- The records of an accepted file from an offset on, and the turns of the maker's loop. Assumes nothing.
 use mathlib.Core.Path.{_≡_, refl, sym, ap, ap₂, _∙_, subst}
 use mathlib.Core.Bool.{Bool, true, false, cond}
-use mathlib.Core.List.{List, [], _∷_, _++_, append-assoc, append-nil}
-use mathlib.Core.Option.{Option, none, some}
-use Prim.Native.Nat.{ℕ, zero, suc, _+_, _*_, _/_, _%_, _-_, _≤_, _<_}
+use mathlib.Core.List.{List, [], _∷_, _++_}
+use mathlib.Core.Option.{Option, some}
+use Prim.Native.Nat.{ℕ, _+_, _*_, _/_, _%_, _-_, _≤_, _<_}
 use native.Mathlib.Nat.{div-add-mod', add-zero}
 use native.Mathlib.Omega.{arith}
-use borrow.Author.Tests.{ltb-true, ltb-false, lt-leb, le-leb}
-use lib.Dec.{T, ltb}
+use borrow.Author.Tests.{lt-leb, le-leb}
 use lib.ListN.{length, take, drop, getD, length-append, length-drop}
 use lib.Seq.{take-at, drop-at, drop-drop, getD-drop, length-take-le}
 use Rattle.cgx_spec.specs.declared.Kind.{Kind}
@@ -15,29 +14,24 @@ use Rattle.cgx_spec.specs.declared.Offset.the-variants.{Nowhere, At}
 use Rattle.cgx_spec.specs.declared.Verdict.{Verdict}
 use Rattle.cgx_spec.specs.declared.Verdict.the-variants.{Accepted as accepted, Refused as refused}
 use Rattle.cgx_spec.specs.Numbers.{Bytes}
-use Rattle.cgx_spec.specs.Fields.{join, lengthsFit, normalBytes}
-use Rattle.cgx_spec.specs.Kinds.{kindOf, goodFlags, layout}
+use Rattle.cgx_spec.specs.Fields.{join}
+use Rattle.cgx_spec.specs.Kinds.{kindOf}
 use Rattle.cgx_spec.specs.Order.{start}
-use Rattle.cgx_spec.specs.Records.{Rec, size, bytesOf, piecesOf, normalOf, Rule, rule, broken, rules}
-use Rattle.cgx_spec.specs.Files.{header, verdictOf, Accepted, recordsOf, ifKnown, known, sequence, normals, normalForm}
+use Rattle.cgx_spec.specs.Records.{Rec, size, bytesOf, normalOf}
+use Rattle.cgx_spec.specs.Files.{verdictOf, Accepted, recordsOf, normalForm}
 use Rattle.cgx_spec.specs.Walking.{recAt, Held}
 use Rattle.cgx_spec.specs.Written.{Sized}
 use Rattle.cgx_spec.proofs.Chain.{State, stateOf, may, then, Chain, file-sound}
 use Rattle.cgx_spec.proofs.Demand3.{unknown-kind}
-use Rattle.cgx_spec.proofs.Lists.{true→T, allBelow, at-each}
-use Rattle.cgx_spec.proofs.Normal.{rules-kept}
-use Rattle.cgx_spec.proofs.Pieces.{fit, length-normalBytes}
 use Rattle.cgx_put.specs.Put.{put}
 use Rattle.cgx_put.proofs.Puts.{put-nil, put-next, put-length, put-is}
 use Rattle.cgx_copy.specs.Copy.{Copyable}
-use Rattle.cgx_normal.specs.Made.{roomFor, made, madeOf, left, leftIn, FitsKind, normalRun, taken, Ready}
+use Rattle.cgx_check.specs.Measure.{FitsKind, normalRun, taken}
+use Rattle.cgx_check.proofs.Runs.{length-of, fits-of, run-nil, run-cons, run-unknown, run-known, some-below, run-length, form-is, form-long}
+use Rattle.cgx_normal.specs.Made.{roomFor, made, madeOf, left, leftIn, Ready}
 use Rattle.cgx_normal.specs.declared.Made.the-variants.{Refused, Length}
 
 -- ---- the record at an offset
-
-length-of : (r : Rec) → length (bytesOf r) ≡ size r
-unfolding bytesOf
-length-of r = omega arith
 
 module _ (f : List ℕ) (at : ℕ) (r : Rec) (bs : List ℕ) (e : drop at f ≡ bytesOf r ++ bs) (s : Sized r) where
   byte : (i : ℕ) → getD f (at + i) 0 ≡ getD (bytesOf r ++ bs) i 0
@@ -84,71 +78,9 @@ abbrev pub AllFit : List Rec → Type 0
 AllFit [] = Unit {0}
 AllFit (r ∷ rs) = Sized r × FitsKind (kindOf (r .type)) r × AllFit rs
 
-fits-of : (s : Bool) (o : Option Kind) (r : Rec) → broken (rules s o r) ≡ none → FitsKind o r
-fits-of s none r e = tt
-fits-of s (some k) r e = rules-kept s k r e .0
-
 chain-fit : (rs : List Rec) (s : State) → Chain s rs → AllFit rs
 chain-fit [] s c = tt
 chain-fit (r ∷ rs) s c = (c .1, fits-of (may s (kindOf (r .type))) (kindOf (r .type)) r (c .2), chain-fit rs (then s (kindOf (r .type))) (c .3))
-
--- ---- the normal form of the rest
-
-run-nil : normalRun [] ≡ []
-unfolding normalRun known
-run-nil = refl
-
-run-cons : (r : Rec) (rs : List Rec) → normalRun (r ∷ rs) ≡ normalRun (r ∷ []) ++ normalRun rs
-unfolding normalRun known
-run-cons r rs = go (kindOf (r .type))
-  where
-    go : (o : Option Kind) → join bytesOf (normals (ifKnown o r (known rs))) ≡ join bytesOf (normals (ifKnown o r [])) ++ join bytesOf (normals (known rs))
-    go none = refl
-    go (some k) = ap (λ (l : List ℕ). l ++ join bytesOf (normals (known rs))) (sym (append-nil (bytesOf (normalOf k r))))
-
--- an unknown record has none, a known one as many bytes as it has
-run-unknown : (r : Rec) → kindOf (r .type) ≡ none → normalRun (r ∷ []) ≡ []
-unfolding normalRun known
-run-unknown r e = ap (λ (o : Option Kind). join bytesOf (normals (ifKnown o r []))) e
-
-pub run-known : (r : Rec) (k : Kind) → kindOf (r .type) ≡ some k → normalRun (r ∷ []) ≡ bytesOf (normalOf k r)
-unfolding normalRun known
-run-known r k e = ap (λ (o : Option Kind). join bytesOf (normals (ifKnown o r []))) e ∙ append-nil (bytesOf (normalOf k r))
-
--- the types below 11 are known
-isKnown : ℕ → Bool
-isKnown t = elim (kindOf t) [ none ↦ false | some k ↦ true ]
-
-below-known : (t : ℕ) → t < 11 → kindOf t ≡ none → ⊥
-below-known t h e = subst T (ap (λ (o : Option Kind). elim o [ none ↦ false | some k ↦ true ]) e) (all-known t h)
-  where
-    all-known : (t : ℕ) → t < 11 → T (elim (kindOf t) [ none ↦ false | some k ↦ true ])
-    all-known t h = unfold isKnown kindOf allBelow in (at-each 11 isKnown tt t h)
-
-some-below : (t : ℕ) (k : Kind) → kindOf t ≡ some k → ltb t 11 ≡ true
-some-below t k e = go (ltb t 11) refl
-  where
-    go : (b : Bool) → ltb t 11 ≡ b → b ≡ true
-    go true q = refl
-    go false q = absurd (let n = sym (unknown-kind t (ltb-false t 11 q)) ∙ e in let z : _≡_ {A = ℕ} 0 1 = cc in omega arith)
-
-none-above : (t : ℕ) → kindOf t ≡ none → ltb t 11 ≡ false
-none-above t e = go (ltb t 11) refl
-  where
-    go : (b : Bool) → ltb t 11 ≡ b → b ≡ false
-    go true q = absurd (below-known t (ltb-true t 11 q) e)
-    go false q = refl
-
-size-normal : (k : Kind) (r : Rec) → Bytes (r .body) → lengthsFit (piecesOf k r) ≡ true → size (normalOf k r) ≡ size r
-unfolding normalOf piecesOf
-size-normal k r b w = ap (λ (n : ℕ). 4 + n) (length-normalBytes (layout k (r .flags)) (r .body) (fit (layout k (r .flags)) (r .body) b (true→T w)))
-
-pub run-length : (r : Rec) → Sized r → FitsKind (kindOf (r .type)) r → length (normalRun (r ∷ [])) ≡ taken (r .type) (size r)
-run-length r s h = go (kindOf (r .type)) refl h
-  where
-    go : (o : Option Kind) → kindOf (r .type) ≡ o → FitsKind o r → length (normalRun (r ∷ [])) ≡ taken (r .type) (size r)
-    go none e w = ap length (run-unknown r e) ∙ sym (ap (λ (b : Bool). cond b (size r) 0) (none-above (r .type) e))
-    go (some k) e w = ap length (run-known r k e) ∙ length-of (normalOf k r) ∙ size-normal k r (s .body-bytes) w ∙ sym (ap (λ (b : Bool). cond b (size r) 0) (some-below (r .type) k e))
 
 -- ---- from an offset on
 
@@ -188,7 +120,7 @@ turn f at n (r ∷ rs) h l e =
           held-in = g;
           says-so = says f at r bs (h .from) s;
           fits = subst (λ (x : Rec). FitsKind (kindOf (getD f (at + 2) 0)) x) (sym i) (subst (λ (x : ℕ). FitsKind (kindOf x) r) (sym t) (h .fit .1));
-          takes = ap (λ (x : Rec). length (normalRun (x ∷ []))) i ∙ run-length r s (h .fit .1) ∙ ap (λ (x : ℕ). taken x (size r)) (sym t);
+          takes = ap (λ (x : Rec). length (normalRun (x ∷ []))) i ∙ run-length r (s .body-bytes) (h .fit .1) ∙ ap (λ (x : ℕ). taken x (size r)) (sym t);
           rest = record { from = rest-is f at r bs (h .from) s; fit = h .fit .2; inside = g .inside };
         }
 
@@ -200,20 +132,7 @@ enough f at rs h l =
     let i = g .inside in
     omega arith
 
-pub taken-le : (t n : ℕ) {w : ℕ} → w ≡ taken t n → w ≤ n
-taken-le t n e = go (ltb t 11) e
-  where
-    go : (b : Bool) {w : ℕ} → w ≡ cond b n 0 → w ≤ n
-    go true e = omega arith
-    go false e = omega arith
-
--- ---- the two loops
-
--- the length so far, and that of the rest
-pub record Counted (f : List ℕ) (at n : ℕ) : Type 0 where
-  pub rs : List Rec
-  pub rest : Rest f at rs
-  pub sum : n + length (normalRun rs) ≡ length (normalForm f)
+-- ---- the copying loop
 
 -- what was written so far, with the rest behind it, is the whole
 pub record Written (f : List ℕ) (at : ℕ) (goal out : List ℕ) (to : ℕ) : Type 0 where
@@ -233,37 +152,19 @@ module _ (f : List ℕ) (h : Bytes f) (a : Accepted f) where
   pub first-rest : Rest f 4 records
   first-rest = record { from = ap (drop 4) (file-sound f h a .0); fit = chain-fit records (stateOf start) (file-sound f h a .1); inside = long }
 
-  form-is : normalForm f ≡ take 4 f ++ normalRun records
-  unfolding normalForm sequence normalRun
-  form-is = refl
-
   pub four : length (take 4 f) ≡ 4
   four = length-take-le 4 f long
-
-  pub counted-first : Counted f 4 4
-  counted-first =
-      record {
-        rs = records;
-        rest = first-rest;
-        sum = ap (λ (n : ℕ). n + length (normalRun records)) (sym four) ∙ sym (length-append (take 4 f) (normalRun records)) ∙ sym (ap length form-is);
-      }
 
   -- the goal of the loop, whose output begins with the first four bytes
   pub written-first : (out : List ℕ) → length (normalForm f) ≤ length out → Written f 4 (put out 4 (normalRun records)) out 4
   written-first out l =
-      let e : length (normalForm f) ≡ 4 + length (normalRun records) = ap length form-is ∙ length-append (take 4 f) (normalRun records) ∙ ap (λ (n : ℕ). n + length (normalRun records)) four in
+      let e = form-long f long in
       record { rs = records; rest = first-rest; room = omega arith; whole = refl }
 
   pub written-form : (out : List ℕ) → put (put out 0 (take 4 f)) 4 (normalRun records) ≡ put out 0 (normalForm f)
-  written-form out = put-next out 0 4 4 (take 4 f) (normalRun records) four refl ∙ ap (put out 0) (sym form-is)
+  written-form out = put-next out 0 4 4 (take 4 f) (normalRun records) four refl ∙ ap (put out 0) (sym (form-is f))
 
 module _ (f : List ℕ) (at n : ℕ) (l : at < length f) (e : n ≡ getD f at 0 * 256 + getD f (at + 1) 0) where
-  pub counted-on : (m : ℕ) → Counted f at m → {w : ℕ} → w ≡ taken (getD f (at + 2) 0) n → Counted f (at + n) (m + w)
-  counted-on m c {w} d =
-      let t = turn f at n (c .rs) (c .rest) l e in
-      let q : length (normalRun (c .rs)) ≡ w + length (normalRun (t .more)) = ap (λ (x : List Rec). length (normalRun x)) (t .split) ∙ ap length (run-cons (recAt f at n) (t .more)) ∙ length-append (normalRun (recAt f at n ∷ [])) (normalRun (t .more)) ∙ ap (λ (k : ℕ). k + length (normalRun (t .more))) (t .takes ∙ sym d) in
-      record { rs = t .more; rest = t .rest; sum = (let s = c .sum in omega arith) }
-
   module _ (goal out : List ℕ) (to : ℕ) (c : Written f at goal out to) where
     run-is : (t : Turn f at n (c .rs)) → normalRun (c .rs) ≡ normalRun (recAt f at n ∷ []) ++ normalRun (t .more)
     run-is t = ap normalRun (t .split) ∙ run-cons (recAt f at n) (t .more)
@@ -292,12 +193,6 @@ none-left : (f : List ℕ) (at : ℕ) (rs : List Rec) → Rest f at rs → lengt
 none-left f at [] h l = refl
 none-left f at (r ∷ rs) h l =
     absurd (let z : length (drop at f) ≡ size r + length (join bytesOf rs) = ap length (h .from) ∙ length-append (bytesOf r) (join bytesOf rs) ∙ ap (λ (n : ℕ). n + length (join bytesOf rs)) (length-of r) in omega (arith, length-drop at f))
-
-pub counted-all : (f : List ℕ) (at n : ℕ) → Counted f at n → length f ≤ at → n ≡ length (normalForm f)
-counted-all f at n c l =
-    let e : length (normalRun (c .rs)) ≡ 0 = ap (λ (rs : List Rec). length (normalRun rs)) (none-left f at (c .rs) (c .rest) l) ∙ ap length run-nil in
-    let s = c .sum in
-    omega arith
 
 pub written-all : (f : List ℕ) (at : ℕ) (goal out : List ℕ) (to : ℕ) → Written f at goal out to → length f ≤ at → out ≡ goal
 written-all f at goal out to c l =

@@ -1,23 +1,19 @@
 -- What the normal-form maker answers, and what the lent output then holds. Definitions only.
-use mathlib.Core.Bool.{Bool, true, cond}
+use mathlib.Core.Bool.{Bool, cond}
 use mathlib.Core.List.{List, _++_}
 use mathlib.Core.Path.{_≡_}
 use Prim.Native.Nat.{ℕ, _+_, _*_, _≤_}
-use lib.Dec.{leb, ltb}
+use lib.Dec.{leb}
 use lib.ListN.{length, drop, getD}
-use Rattle.cgx_spec.specs.declared.Kind.{Kind}
 use Rattle.cgx_spec.specs.declared.Offset.the-variants.{Nowhere, At}
 use Rattle.cgx_spec.specs.declared.Verdict.{Verdict}
 use Rattle.cgx_spec.specs.declared.Verdict.the-variants.{Accepted as accepted, Refused as refused}
-use Rattle.cgx_spec.specs.Fields.{join, lengthsFit}
 use Rattle.cgx_spec.specs.Kinds.{kindOf}
-use Rattle.cgx_spec.specs.Records.{Rec, bytesOf, piecesOf}
-use Rattle.cgx_spec.specs.Files.{verdictOf, known, normals, normalForm}
+use Rattle.cgx_spec.specs.Files.{verdictOf, normalForm}
 use Rattle.cgx_spec.specs.Walking.{recAt, Held}
-use Rattle.cgx_spec.specs.Written.{Sized}
+use Rattle.cgx_check.specs.Measure.{FitsKind, taken}
 use Rattle.cgx_normal.specs.declared.Made.{Made}
 use Rattle.cgx_normal.specs.declared.Made.the-variants.{Refused, Length}
-use mathlib.Core.Option.{Option, none, some}
 
 -- ---- the maker
 
@@ -41,20 +37,7 @@ left accepted f out = cond (roomFor f (length out)) (normalForm f ++ drop (lengt
 unfoldable pub leftIn : List ℕ → List ℕ → List ℕ
 leftIn f out = left (verdictOf f) f out
 
--- ---- the records of an accepted file, one after another
-
--- A known record has fields of lengths that they may have.
-abbrev pub FitsKind : Option Kind → Rec → Type 0
-FitsKind none r = Unit {0}
-FitsKind (some k) r = lengthsFit (piecesOf k r) ≡ true
-
--- The bytes of the normal form of some records.
-unfoldable pub normalRun : List Rec → List ℕ
-normalRun rs = join bytesOf (normals (known rs))
-
--- The bytes that a record of this type and size takes in the normal form.
-abbrev pub taken : ℕ → ℕ → ℕ
-taken t n = cond (ltb t 11) n 0
+-- ---- a record of an accepted file
 
 -- A whole record of n bytes at an offset, and room for it from `to` on where it is known.
 pub record Ready (f : List ℕ) (at n : ℕ) (out : List ℕ) (to : ℕ) : Type 0 where

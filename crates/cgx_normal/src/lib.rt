@@ -6,14 +6,16 @@ ghost use lib.ListN.{length};
 ghost use Rattle.cgx_spec.specs.Files.{Accepted, normalForm};
 ghost use Rattle.cgx_spec.specs.Walking.{recAt};
 ghost use Rattle.cgx_put.specs.Put.{put};
-ghost use Rattle.cgx_normal.specs.Made.{madeOf, leftIn, normalRun, taken, Ready};
-use cgx_check::check;
+ghost use Rattle.cgx_check.specs.Measure.{normalRun};
+ghost use Rattle.cgx_normal.specs.Made.{madeOf, leftIn, Ready};
+use cgx_check::Measured;
+use cgx_check::measure;
+use cgx_check::taken_by;
 use cgx_copy::copy_record;
 use cgx_numbers::unsigned_at;
 use cgx_put::put_bytes;
 use cgx_records::kind_of;
 use cgx_spec::Offset;
-use cgx_spec::Verdict;
 
 // What the maker answers.
 pub enum Made {
@@ -28,46 +30,23 @@ pub fn normal_form(file: &[u8], out: &mut [u8]) -> Made
     ensures { λ r. ⌜ r ≡ madeOf (now (file .entry)) (length (now (out .entry))) ⌝ }
     ensures output { λ _. ⌜ now (out .exit) ≡ leftIn (now (file .entry)) (now (out .entry)) ⌝ }
 {
-    let verdict = check(file);
-    match verdict {
-        Verdict::Refused { number, at } => Made::Refused {
+    let found = measure(file);
+    match found {
+        Measured::Refused { number, at } => Made::Refused {
             number,
             at: Offset::At(at),
         },
-        Verdict::Accepted => {
-            let n = normal_length(file);
-            if out.len() < n {
+        Measured::Accepted { length } => {
+            if out.len() < length {
                 return Made::Refused {
                     number: 14,
                     at: Offset::Nowhere,
                 };
             }
             copy_records(file, out);
-            Made::Length(n)
+            Made::Length(length)
         }
     }
-}
-
-// The length of the normal form: the first four bytes, and the known records as long as they are.
-fn normal_length(file: &[u8]) -> usize
-    requires { ⌜ Accepted (now file) ⌝ }
-    ensures { λ r. ⌜ r ≡ length (normalForm (now (file .entry))) ⌝ }
-{
-    let mut n: usize = 4;
-    let mut at: usize = 4;
-    while at < file.len() {
-        let size = unsigned_at(file, at) as usize;
-        n += taken_by(file[at + 2], size);
-        at += size;
-    }
-    n
-}
-
-// An unknown record takes no room.
-fn taken_by(t: u8, size: usize) -> usize
-    ensures { λ r. ⌜ r ≡ taken t size ⌝ }
-{
-    if t < 11 { size } else { 0 }
 }
 
 // Writes the normal form to the beginning of an output that has room for it.

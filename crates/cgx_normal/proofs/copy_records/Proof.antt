@@ -10,8 +10,9 @@ use Rattle.cgx_spec.specs.Walking.{recAt}
 use Rattle.cgx_put.specs.Put.{put}
 use Rattle.cgx_put.proofs.Puts.{put-length}
 use Rattle.cgx_steps.proofs.Heads.{size-is}
-use Rattle.cgx_normal.specs.Made.{normalRun}
-use Rattle.cgx_normal.proofs.Rests.{turn, enough, taken-le, first-rest, four, counted-first, Written, written-first, written-form, ready, written-on, written-all}
+use Rattle.cgx_check.specs.Measure.{normalRun}
+use Rattle.cgx_check.proofs.Runs.{taken-le, form-long}
+use Rattle.cgx_normal.proofs.Rests.{turn, enough, first-rest, four, Written, written-first, written-form, ready, written-on, written-all}
 use Rattle.cgx_normal.proofs.copy_records.Statement.{statement}
 use Rattle.cgx_normal.proofs.copy_records.Tie as tie
 
@@ -28,10 +29,10 @@ part-put-bytes-start : tie.Need-part-put-bytes-start Inv-loop μ-loop
 part-put-bytes-start c = search needs
 
 part-put-bytes-end : tie.Need-part-put-bytes-end Inv-loop μ-loop
-part-put-bytes-end c = let z = first-rest (c .before .before .before .args .file .now) (λ i. c .before .before .shared-slice-known .given i .fits) (c .before .before .before .pre .0) .inside in let y = counted-first (c .before .before .before .args .file .now) (λ i. c .before .before .shared-slice-known .given i .fits) (c .before .before .before .pre .0) .sum in omega arith
+part-put-bytes-end c = let z = first-rest (c .before .before .before .args .file .now) (λ i. c .before .before .shared-slice-known .given i .fits) (c .before .before .before .pre .0) .inside in let y = form-long (c .before .before .before .args .file .now) z in omega arith
 
 put-bytes-requires : tie.Need-put-bytes-requires Inv-loop μ-loop
-put-bytes-requires c κs = let z = first-rest (c .before .before .before .before .args .file .now) (λ i. c .before .before .before .shared-slice-known .given i .fits) (c .before .before .before .before .pre .0) .inside in let y = counted-first (c .before .before .before .before .args .file .now) (λ i. c .before .before .before .shared-slice-known .given i .fits) (c .before .before .before .before .pre .0) .sum in let w = c .before .before .before .before .pre .1 in rw (four (c .before .before .before .before .args .file .now) (λ i. c .before .before .before .shared-slice-known .given i .fits) (c .before .before .before .before .pre .0)) (omega arith)
+put-bytes-requires c κs = let z = first-rest (c .before .before .before .before .args .file .now) (λ i. c .before .before .before .shared-slice-known .given i .fits) (c .before .before .before .before .pre .0) .inside in let y = form-long (c .before .before .before .before .args .file .now) z in let w = c .before .before .before .before .pre .1 in rw (four (c .before .before .before .before .args .file .now) (λ i. c .before .before .before .shared-slice-known .given i .fits) (c .before .before .before .before .pre .0)) (omega arith)
 
 loop-holds : tie.Need-loop-holds Inv-loop μ-loop
 loop-holds c =

@@ -2,8 +2,8 @@
 use mathlib.Core.Path.{sym, ap}
 use mathlib.Core.Bool.{Bool, cond}
 use borrow.Author.Tests.{lt-ltb, le-ltb}
-use Rattle.cgx_normal.proofs.taken_by.Statement.{statement}
-use Rattle.cgx_normal.proofs.taken_by.Tie as tie
+use Rattle.cgx_check.proofs.taken_by.Statement.{statement}
+use Rattle.cgx_check.proofs.taken_by.Tie as tie
 
 returns : tie.Need-returns
 returns c = sym (ap (λ (b : Bool). cond b (c .before .args .size) 0) (lt-ltb (c .before .args .t) 11 (c .if1 .taken)))
