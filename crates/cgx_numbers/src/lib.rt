@@ -140,7 +140,7 @@ fn signed_long(n: u32) -> i32
     }
 }
 
-fn short_bits(n: i16) -> u16
+pub fn short_bits(n: i16) -> u16
     ensures { λ r. ⌜ r ≡ untwos (2 ^ 15) n ⌝ }
 {
     if n < 0 {
@@ -150,7 +150,7 @@ fn short_bits(n: i16) -> u16
     }
 }
 
-fn long_bits(n: i32) -> u32
+pub fn long_bits(n: i32) -> u32
     ensures { λ r. ⌜ r ≡ untwos (2 ^ 31) n ⌝ }
 {
     if n < 0 {

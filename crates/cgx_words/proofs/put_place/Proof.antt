@@ -1,0 +1,47 @@
+-- Nine words are stored at once.
+use mathlib.Core.Path.{sym, _∙_}
+use Rattle.cgx_words.proofs.Stored.{place-words}
+use borrow.Author.Needs.{needs}
+use Rattle.cgx_words.proofs.put_place.Statement.{statement}
+use Rattle.cgx_words.proofs.put_place.Tie as tie
+
+offset-present-requires : tie.Need-offset-present-requires
+offset-present-requires c κs = search needs
+
+offset-at-requires : tie.Need-offset-at-requires
+offset-at-requires c κs = search needs
+
+offset-present-requires-2 : tie.Need-offset-present-requires-2
+offset-present-requires-2 c κs = search needs
+
+offset-at-requires-2 : tie.Need-offset-at-requires-2
+offset-at-requires-2 c κs = search needs
+
+run-present-requires : tie.Need-run-present-requires
+run-present-requires c κs = search needs
+
+run-first-requires : tie.Need-run-first-requires
+run-first-requires c κs = search needs
+
+run-count-requires : tie.Need-run-count-requires
+run-count-requires c κs = search needs
+
+state-word-requires : tie.Need-state-word-requires
+state-word-requires c κs = search needs
+
+returns : tie.Need-returns
+returns c = cc (place-words (c .before .before .before .before .before .before .before .before .before .before .args .p))
+
+pub put-place-spec : {M : Type 1} → statement M
+put-place-spec =
+    tie.close
+    (tie.spec
+    offset-present-requires
+    offset-at-requires
+    offset-present-requires-2
+    offset-at-requires-2
+    run-present-requires
+    run-first-requires
+    run-count-requires
+    state-word-requires
+    returns)

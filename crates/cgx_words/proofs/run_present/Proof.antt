@@ -1,0 +1,23 @@
+-- By cases.
+use mathlib.Core.Path.{refl}
+use Rattle.cgx_words.specs.Words.{runWords}
+use borrow.Author.Needs.{needs}
+use Rattle.cgx_words.proofs.run_present.Statement.{statement}
+use Rattle.cgx_words.proofs.run_present.Tie as tie
+
+enum-told : tie.Need-enum-told
+enum-told c = search needs
+
+enum-told-2 : tie.Need-enum-told-2
+enum-told-2 c = search needs
+
+returns : tie.Need-returns
+unfolding runWords
+returns c = rw (c .enum-told .given .1) refl
+
+returns-2 : tie.Need-returns-2
+unfolding runWords
+returns-2 c = rw (c .enum-told2 .given .1) refl
+
+pub run-present-spec : {M : Type 1} → statement M
+run-present-spec = tie.close (tie.spec enum-told enum-told-2 returns returns-2)

@@ -1,0 +1,2 @@
+-- Places and views as words of eight bytes.
+pub mod Words
