@@ -1,2 +1,2 @@
--- `Stored`: words stored one after another, and that a place goes to words and back.
-pub mod Stored
+-- `Places`: the words of a place say that place.
+pub mod Places

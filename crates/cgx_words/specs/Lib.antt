@@ -1,2 +1,2 @@
--- Places and views as words of eight bytes.
+-- Places as words of eight bytes.
 pub mod Words

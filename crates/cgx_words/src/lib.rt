@@ -1,44 +1,14 @@
-// Places and views in a C caller's memory. A caller lends a struct of include/cgx.h, which is taken as words of eight bytes.
-use cgx_kinds::Array;
-use cgx_kinds::Boxes;
-use cgx_kinds::Cprpty;
-use cgx_kinds::Date;
-use cgx_kinds::Fields;
-use cgx_kinds::Layer;
-use cgx_kinds::Library;
-use cgx_kinds::Name;
-use cgx_kinds::OptionalReal;
-use cgx_kinds::Point;
-use cgx_kinds::Poly;
-use cgx_kinds::Property;
-use cgx_kinds::Repeat;
-use cgx_kinds::Span;
-use cgx_kinds::Sref;
-use cgx_kinds::Struct;
-use cgx_kinds::Text;
-use cgx_kinds::View;
-use cgx_kinds::Wire;
-use cgx_numbers::long_bits;
-use cgx_numbers::short_bits;
+// Places in a C caller's memory. A caller lends a struct of include/cgx.h, which is taken as words of eight bytes, the low byte first.
 use cgx_spec::Context;
-use cgx_spec::Kind;
 use cgx_spec::Offset;
 use cgx_spec::Place;
-use cgx_spec::Real;
 use cgx_spec::Run;
 ghost use mathlib.Core.Path.{_≡_};
-ghost use mathlib.Core.List.{_∷_};
-ghost use Prim.Native.Nat.{_+_, _*_, _^_, _<_, _≤_};
+ghost use Prim.Native.Nat.{_≤_};
 ghost use lib.ListN.{getD};
-ghost use Rattle.cgx_spec.specs.Restated.{typeByte};
-ghost use Rattle.cgx_put.specs.Put.{put};
-ghost use Rattle.cgx_words.specs.Words.{bit as bitOf, offsetWords, runWords, stateWord, placeWords, isSet, offsetOf, runOf, placeOf, longBits, shortBits, pairWord, pointWord, dateWord, spanWords, listWords, doubleBits, realWords, optionalWords, arrayWords, fieldWords, headWord, viewWords};
+ghost use Rattle.cgx_words.specs.Words.{bit as bitOf, offsetWords, runWords, stateWord, placeWords, isSet, offsetOf, runOf, placeOf};
 
 pub type PlaceWords = [u64; 9];
-
-pub type ViewWords = [u64; 22];
-
-// ---- places
 
 pub fn place_of(w: &PlaceWords) -> Place
     ensures { λ r. ⌜ r ≡ placeOf (now (w .entry)) ⌝ }
@@ -116,14 +86,14 @@ fn state_word(library: bool, fresh: bool, ended: bool) -> u64
     bit(library) + 256 * bit(fresh) + 65536 * bit(ended)
 }
 
-fn bit(b: bool) -> u64
+pub fn bit(b: bool) -> u64
     ensures { λ r. ⌜ r ≡ bitOf b ⌝ }
     ensures small { λ r. ⌜ r ≤ 1 ⌝ }
 {
     if b { 1 } else { 0 }
 }
 
-fn offset_present(o: Offset) -> u64
+pub fn offset_present(o: Offset) -> u64
     ensures { λ w. ⌜ w ≡ getD (offsetWords o) 0 0 ⌝ }
 {
     match o {
@@ -132,7 +102,7 @@ fn offset_present(o: Offset) -> u64
     }
 }
 
-fn offset_at(o: Offset) -> u64
+pub fn offset_at(o: Offset) -> u64
     ensures { λ w. ⌜ w ≡ getD (offsetWords o) 1 0 ⌝ }
 {
     match o {
@@ -141,7 +111,7 @@ fn offset_at(o: Offset) -> u64
     }
 }
 
-fn run_present(r: Run) -> u64
+pub fn run_present(r: Run) -> u64
     ensures { λ w. ⌜ w ≡ getD (runWords r) 0 0 ⌝ }
 {
     match r {
@@ -150,7 +120,7 @@ fn run_present(r: Run) -> u64
     }
 }
 
-fn run_first(r: Run) -> u64
+pub fn run_first(r: Run) -> u64
     ensures { λ w. ⌜ w ≡ getD (runWords r) 1 0 ⌝ }
 {
     match r {
@@ -159,315 +129,11 @@ fn run_first(r: Run) -> u64
     }
 }
 
-fn run_count(r: Run) -> u64
+pub fn run_count(r: Run) -> u64
     ensures { λ w. ⌜ w ≡ getD (runWords r) 2 0 ⌝ }
 {
     match r {
         Run::Empty => 0,
         Run::Of { first: _, count } => count as u64,
     }
-}
-
-// ---- views
-
-pub fn put_view(w: &mut ViewWords, v: View)
-    ensures { λ _. ⌜ now (w .exit) ≡ put (now (w .entry)) 0 (viewWords v) ⌝ }
-{
-    let k = v.kind;
-    let flags = v.flags;
-    let fields = v.fields;
-    let cell = v.cell;
-    let layer = v.layer;
-    let run = v.run;
-    w[0] = head_word(k, flags);
-    w[1] = v.at as u64;
-    w[2] = offset_present(cell);
-    w[3] = offset_at(cell);
-    w[4] = offset_present(layer);
-    w[5] = offset_at(layer);
-    w[6] = run_present(run);
-    w[7] = run_first(run);
-    w[8] = run_count(run);
-    put_fields(w, fields);
-}
-
-fn head_word(k: Kind, flags: u8) -> u64
-    ensures { λ r. ⌜ r ≡ headWord k flags ⌝ }
-{
-    kind_number(k) + 256 * (flags as u64)
-}
-
-fn kind_number(k: Kind) -> u64
-    ensures { λ r. ⌜ r ≡ typeByte k ⌝ }
-    ensures known { λ r. ⌜ r ≤ 10 ⌝ }
-{
-    match k {
-        Kind::Library => 0,
-        Kind::Struct => 1,
-        Kind::Cprpty => 2,
-        Kind::Property => 3,
-        Kind::Layer => 4,
-        Kind::Box => 5,
-        Kind::Poly => 6,
-        Kind::Wire => 7,
-        Kind::Text => 8,
-        Kind::Sref => 9,
-        Kind::Endlib => 10,
-    }
-}
-
-fn put_fields(w: &mut ViewWords, f: Fields)
-    ensures { λ _. ⌜ now (w .exit) ≡ put (now (w .entry)) 9 (fieldWords f) ⌝ }
-{
-    match f {
-        Fields::Library(l) => put_library(w, l),
-        Fields::Struct(s) => put_struct(w, s),
-        Fields::Cprpty(p) => {
-            let number = p.number;
-            let value = p.value;
-            put_property(w, number, value);
-        }
-        Fields::Property(p) => {
-            let number = p.number;
-            let value = p.value;
-            put_property(w, number, value);
-        }
-        Fields::Layer(l) => put_layer(w, l),
-        Fields::Box(b) => {
-            let boxes = b.boxes;
-            put_list(w, 9, boxes);
-        }
-        Fields::Poly(p) => {
-            let points = p.points;
-            put_list(w, 9, points);
-        }
-        Fields::Wire(x) => put_wire(w, x),
-        Fields::Text(t) => put_text(w, t),
-        Fields::Sref(s) => put_sref(w, s),
-        Fields::Endlib => {}
-    }
-}
-
-fn put_library(w: &mut ViewWords, l: Library)
-    ensures { λ _. ⌜ now (w .exit) ≡ put (now (w .entry)) 9 (fieldWords (Fields.Library l)) ⌝ }
-{
-    let munit = l.munit;
-    let uunit = l.uunit;
-    let created = l.created;
-    let modified = l.modified;
-    let name = l.name;
-    put_real(w, 9, munit);
-    put_real(w, 12, uunit);
-    w[15] = date_word(created);
-    w[16] = date_word(modified);
-    put_span(w, 17, name);
-}
-
-fn put_struct(w: &mut ViewWords, s: Struct)
-    ensures { λ _. ⌜ now (w .exit) ≡ put (now (w .entry)) 9 (fieldWords (Fields.Struct s)) ⌝ }
-{
-    let created = s.created;
-    let modified = s.modified;
-    let name = s.name;
-    w[9] = date_word(created);
-    w[10] = date_word(modified);
-    put_span(w, 11, name);
-}
-
-fn put_property(w: &mut ViewWords, number: i32, value: Span)
-    ensures { λ _. ⌜ now (w .exit) ≡ put (now (w .entry)) 9 (longBits number ∷ spanWords value) ⌝ }
-{
-    w[9] = long_word(number);
-    put_span(w, 10, value);
-}
-
-fn put_layer(w: &mut ViewWords, l: Layer)
-    ensures { λ _. ⌜ now (w .exit) ≡ put (now (w .entry)) 9 (fieldWords (Fields.Layer l)) ⌝ }
-{
-    let number = l.number;
-    let datatype = l.datatype;
-    let name = l.name;
-    let n = number.0;
-    let d = datatype.0;
-    match name {
-        Name::Absent => {
-            w[9] = layer_word(n, d);
-        }
-        Name::Present(s) => {
-            w[9] = layer_word(n, d) + 4294967296;
-            put_span(w, 10, s);
-        }
-    }
-}
-
-fn layer_word(number: i16, datatype: i16) -> u64
-    ensures { λ r. ⌜ r ≡ shortBits number + 2 ^ 16 * shortBits datatype ⌝ }
-    ensures small { λ r. ⌜ r < 2 ^ 32 ⌝ }
-{
-    short_word(number) + 65536 * short_word(datatype)
-}
-
-fn put_wire(w: &mut ViewWords, x: Wire)
-    ensures { λ _. ⌜ now (w .exit) ≡ put (now (w .entry)) 9 (fieldWords (Fields.Wire x)) ⌝ }
-{
-    let width = x.width;
-    let points = x.points;
-    w[9] = long_word(width);
-    put_list(w, 10, points);
-}
-
-fn put_text(w: &mut ViewWords, t: Text)
-    ensures { λ _. ⌜ now (w .exit) ≡ put (now (w .entry)) 9 (fieldWords (Fields.Text t)) ⌝ }
-{
-    let at = t.at;
-    let width = t.width;
-    let label = t.label;
-    w[9] = point_word(at);
-    w[10] = long_word(width);
-    put_span(w, 11, label);
-}
-
-fn put_sref(w: &mut ViewWords, s: Sref)
-    ensures { λ _. ⌜ now (w .exit) ≡ put (now (w .entry)) 9 (fieldWords (Fields.Sref s)) ⌝ }
-{
-    let at = s.at;
-    let angle = s.angle;
-    let magnif = s.magnif;
-    let array = s.array;
-    let name = s.name;
-    w[9] = point_word(at);
-    put_optional(w, 10, angle);
-    put_optional(w, 13, magnif);
-    put_array(w, 16, array);
-    put_span(w, 20, name);
-}
-
-// ---- fields
-
-fn put_span(w: &mut ViewWords, i: usize, s: Span)
-    requires { ⌜ i + 2 ≤ 22 ⌝ }
-    ensures { λ _. ⌜ now (w .exit) ≡ put (now (w .entry)) i (spanWords s) ⌝ }
-{
-    w[i] = s.at as u64;
-    w[i + 1] = s.len as u64;
-}
-
-fn put_list(w: &mut ViewWords, i: usize, r: Repeat)
-    requires { ⌜ i + 2 ≤ 22 ⌝ }
-    ensures { λ _. ⌜ now (w .exit) ≡ put (now (w .entry)) i (listWords r) ⌝ }
-{
-    w[i] = r.first as u64;
-    w[i + 1] = r.count as u64;
-}
-
-fn put_real(w: &mut ViewWords, i: usize, r: Real)
-    requires { ⌜ i + 3 ≤ 22 ⌝ }
-    ensures { λ _. ⌜ now (w .exit) ≡ put (now (w .entry)) i (realWords r) ⌝ }
-{
-    match r {
-        Real::Exact(x) => {
-            w[i] = 257;
-            w[i + 1] = double_word(x);
-            w[i + 2] = 0;
-        }
-        Real::Inexact { negative, e, m } => {
-            w[i] = inexact_word(negative, e);
-            w[i + 1] = 0;
-            w[i + 2] = m;
-        }
-    }
-}
-
-fn inexact_word(negative: bool, e: u8) -> u64
-    ensures { λ r. ⌜ r ≡ 1 + 2 ^ 16 * bitOf negative + 2 ^ 24 * e ⌝ }
-{
-    1 + 65536 * bit(negative) + 16777216 * (e as u64)
-}
-
-fn double_word(x: f64) -> u64
-    ensures { λ r. ⌜ r ≡ doubleBits x ⌝ }
-{
-    if x == x {
-        return f64::to_bits(x);
-    }
-    0
-}
-
-fn put_optional(w: &mut ViewWords, i: usize, o: OptionalReal)
-    requires { ⌜ i + 3 ≤ 22 ⌝ }
-    ensures { λ _. ⌜ now (w .exit) ≡ put (now (w .entry)) i (optionalWords o) ⌝ }
-{
-    match o {
-        OptionalReal::Missing => {
-            w[i] = 0;
-            w[i + 1] = 0;
-            w[i + 2] = 0;
-        }
-        OptionalReal::Given(x) => put_real(w, i, x),
-    }
-}
-
-fn put_array(w: &mut ViewWords, i: usize, a: Array)
-    requires { ⌜ i + 4 ≤ 22 ⌝ }
-    ensures { λ _. ⌜ now (w .exit) ≡ put (now (w .entry)) i (arrayWords a) ⌝ }
-{
-    match a {
-        Array::Single => {
-            w[i] = 0;
-            w[i + 1] = 0;
-            w[i + 2] = 0;
-            w[i + 3] = 0;
-        }
-        Array::Of {
-            cols,
-            rows,
-            across,
-            up,
-        } => {
-            w[i] = pair_word(cols, rows);
-            w[i + 1] = point_word(across);
-            w[i + 2] = point_word(up);
-            w[i + 3] = 1;
-        }
-    }
-}
-
-fn point_word(p: Point) -> u64
-    ensures { λ r. ⌜ r ≡ pointWord p ⌝ }
-{
-    let x = p.x;
-    let y = p.y;
-    pair_word(x, y)
-}
-
-fn pair_word(a: i32, b: i32) -> u64
-    ensures { λ r. ⌜ r ≡ pairWord a b ⌝ }
-{
-    long_word(a) + 4294967296 * long_word(b)
-}
-
-fn date_word(d: Date) -> u64
-    ensures { λ r. ⌜ r ≡ dateWord d ⌝ }
-{
-    let year = d.year;
-    short_word(year)
-        + 65536 * (d.month as u64)
-        + 16777216 * (d.day as u64)
-        + 4294967296 * (d.hour as u64)
-        + 1099511627776 * (d.minute as u64)
-        + 281474976710656 * (d.second as u64)
-}
-
-fn long_word(n: i32) -> u64
-    ensures { λ r. ⌜ r ≡ longBits n ⌝ }
-    ensures small { λ r. ⌜ r < 2 ^ 32 ⌝ }
-{
-    long_bits(n) as u64
-}
-
-fn short_word(n: i16) -> u64
-    ensures { λ r. ⌜ r ≡ shortBits n ⌝ }
-    ensures small { λ r. ⌜ r < 2 ^ 16 ⌝ }
-{
-    short_bits(n) as u64
 }

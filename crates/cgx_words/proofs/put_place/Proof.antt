@@ -1,6 +1,6 @@
 -- Nine words are stored at once.
 use mathlib.Core.Path.{sym, _∙_}
-use Rattle.cgx_words.proofs.Stored.{place-words}
+use Rattle.cgx_words.proofs.Places.{place-words}
 use borrow.Author.Needs.{needs}
 use Rattle.cgx_words.proofs.put_place.Statement.{statement}
 use Rattle.cgx_words.proofs.put_place.Tie as tie

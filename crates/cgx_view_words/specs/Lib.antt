@@ -1,0 +1,2 @@
+-- Views as words of eight bytes.
+pub mod ViewWords
