@@ -1,14 +1,10 @@
 -- What the answers that pass to C stand for: one definition for each, with the library's own cases. Definitions only.
-use mathlib.Core.Path.{_≡_}
 use mathlib.Core.Bool.{Bool, true, cond}
 use Prim.Native.Nat.{ℕ, zero, suc}
 use Rattle.cgx_spec.specs.declared.Verdict.{Verdict}
 use Rattle.cgx_spec.specs.declared.Verdict.the-variants.{Accepted, Refused as NotAccepted}
-use Rattle.cgx_kinds.specs.Meant.{fieldsKind}
 use Rattle.cgx_walk.specs.declared.Started.{Started as WalkStarted}
 use Rattle.cgx_walk.specs.declared.Started.the-variants as walk
-use Rattle.cgx_walk.specs.declared.Outcome.{Outcome}
-use Rattle.cgx_walk.specs.declared.Outcome.the-variants.{Record, Done, Refused as Stopped}
 use Rattle.cgx_lists.specs.declared.BoxAt.{BoxAt}
 use Rattle.cgx_lists.specs.declared.BoxAt.the-variants as boxes
 use Rattle.cgx_lists.specs.declared.PointAt.{PointAt}
@@ -24,10 +20,9 @@ use Rattle.cgx_writing.specs.declared.Started.{Started}
 use Rattle.cgx_writing.specs.declared.Started.the-variants as writer
 use Rattle.cgx_writing.specs.declared.Answer.{Answer}
 use Rattle.cgx_writing.specs.declared.Answer.the-variants as answers
-use Rattle.cgx_plain.specs.Plain.{offsetFrom, placeFrom, viewFrom}
+use Rattle.cgx_plain.specs.Plain.{offsetFrom, placeFrom}
 use Rattle.cgx_answers.specs.declared.PlainVerdict.{PlainVerdict}
 use Rattle.cgx_answers.specs.declared.PlainStart.{PlainStart}
-use Rattle.cgx_answers.specs.declared.PlainStep.{PlainStep}
 use Rattle.cgx_answers.specs.declared.PlainBox.{PlainBox}
 use Rattle.cgx_answers.specs.declared.PlainPoint.{PlainPoint}
 use Rattle.cgx_answers.specs.declared.PlainMade.{PlainMade}
@@ -46,21 +41,6 @@ startedFrom p = cond (p .ready) (walk.Ready (placeFrom (p .place))) (walk.Refuse
 -- A refused start names its offset.
 abbrev pub namesPlace : PlainStart → Bool
 namesPlace p = cond (p .ready) true (p .at .present)
-
--- By its status.
-abbrev pub stepBy : ℕ → PlainStep → Outcome
-stepBy zero p = Record (viewFrom (p .view)) (placeFrom (p .place))
-stepBy (suc zero) p = Done
-stepBy (suc (suc n)) p = Stopped (p .number) (offsetFrom (p .at)) (placeFrom (p .place))
-
-abbrev pub outcomeFrom : PlainStep → Outcome
-outcomeFrom p = stepBy (p .status) p
-
--- A view's fields are those of its kind.
-abbrev pub OfItsKind : Outcome → Type 0
-OfItsKind (Record v p) = fieldsKind (v .fields) ≡ v .kind
-OfItsKind Done = Unit {0}
-OfItsKind (Stopped n o p) = Unit {0}
 
 abbrev pub boxFrom : PlainBox → BoxAt
 boxFrom p = cond (p .found) (boxes.Found (p .left) (p .bottom) (p .right) (p .top)) boxes.Outside

@@ -1,2 +1,3 @@
--- What plain answers stand for.
+-- What plain answers stand for, and what a step leaves in lent memory.
 pub mod Answers
+pub mod Lent

@@ -7,9 +7,6 @@ use cgx_layers::Shown;
 use cgx_lists::BoxAt;
 use cgx_lists::PointAt;
 use cgx_normal::Made;
-use cgx_plain::fields::PlainView;
-use cgx_plain::fields::no_view;
-use cgx_plain::fields::plain_view;
 use cgx_plain::places::PlainOffset;
 use cgx_plain::places::PlainPlace;
 use cgx_plain::places::no_place;
@@ -17,14 +14,19 @@ use cgx_plain::places::plain_offset;
 use cgx_plain::places::plain_place;
 use cgx_spec::Offset;
 use cgx_spec::Verdict;
+use cgx_view_words::ViewWords;
+use cgx_view_words::put_view;
 use cgx_walk::Outcome;
 use cgx_walk::Started as WalkStarted;
+use cgx_words::PlaceWords;
+use cgx_words::put_place;
 use cgx_writing::Answer;
 use cgx_writing::Started;
 ghost use mathlib.Core.Path.{_≡_};
 ghost use mathlib.Core.Bool.{true};
 ghost use Prim.Native.Nat.{_≤_};
-ghost use Rattle.cgx_answers.specs.Answers.{verdictFrom, startedFrom, namesPlace, outcomeFrom, OfItsKind, boxFrom, pointFrom, madeFrom, shownFrom, extentFrom, begunFrom, answerFrom};
+ghost use Rattle.cgx_answers.specs.Answers.{verdictFrom, startedFrom, namesPlace, boxFrom, pointFrom, madeFrom, shownFrom, extentFrom, begunFrom, answerFrom};
+ghost use Rattle.cgx_answers.specs.Lent.{saidBy, saidOf, placeLeft, viewLeft};
 
 #[repr(C)]
 pub struct PlainVerdict {
@@ -42,15 +44,12 @@ pub struct PlainStart {
     pub place: PlainPlace,
 }
 
-// One step of a walk: 0 a record, 1 done, 2 refused.
+// What a step says: 0 a record, which is left in the lent place and view; 1 done; 2 refused.
 #[repr(C)]
 pub struct PlainStep {
     pub status: u8,
     pub number: u8,
     pub at: PlainOffset,
-    // The place after the record; the old place after a refusal.
-    pub place: PlainPlace,
-    pub view: PlainView,
 }
 
 #[repr(C)]
@@ -141,32 +140,35 @@ pub fn plain_started(s: WalkStarted) -> PlainStart
     }
 }
 
-pub fn plain_step(o: Outcome) -> PlainStep
-    requires { ⌜ OfItsKind o ⌝ }
-    ensures { λ r. ⌜ outcomeFrom r ≡ o ⌝ }
-    ensures numbers { λ r. ⌜ (r .status ≤ 2) × (r .view .kind ≤ 10) ⌝ }
+// A record's view and the place after it are left in the lent memory, of which nothing changes at the end and at a refusal.
+pub fn leave(o: Outcome, place: &mut PlaceWords, view: &mut ViewWords) -> PlainStep
+    ensures { λ r. ⌜ saidBy r ≡ saidOf o ⌝ }
+    ensures place { λ _. ⌜ now (place .exit) ≡ placeLeft o (now (place .entry)) ⌝ }
+    ensures view { λ _. ⌜ now (view .exit) ≡ viewLeft o (now (view .entry)) ⌝ }
 {
     match o {
-        Outcome::Record(v, p) => PlainStep {
-            status: 0,
-            number: 0,
-            at: plain_offset(Offset::Nowhere),
-            place: plain_place(p),
-            view: plain_view(v),
-        },
+        Outcome::Record(v, next) => {
+            put_place(place, next);
+            put_view(view, v);
+            PlainStep {
+                status: 0,
+                number: 0,
+                at: plain_offset(Offset::Nowhere),
+            }
+        }
         Outcome::Done => PlainStep {
             status: 1,
             number: 0,
             at: plain_offset(Offset::Nowhere),
-            place: no_place(),
-            view: no_view(),
         },
-        Outcome::Refused { number, at, place } => PlainStep {
+        Outcome::Refused {
+            number,
+            at,
+            place: _,
+        } => PlainStep {
             status: 2,
             number,
             at: plain_offset(at),
-            place: plain_place(place),
-            view: no_view(),
         },
     }
 }

@@ -1,16 +1,14 @@
--- A step that is made as promised has a view whose fields are those of its kind. Assumes nothing.
+-- The place that a step leaves says where the next step goes on. Assumes nothing.
+use mathlib.Core.Path.{_≡_, ap, _∙_}
 use mathlib.Core.List.{List}
 use Prim.Native.Nat.{ℕ}
-use Rattle.cgx_spec.specs.declared.Place.{Place}
 use Rattle.cgx_walk.specs.declared.Outcome.{Outcome}
 use Rattle.cgx_walk.specs.declared.Outcome.the-variants.{Record, Done, Refused}
-use Rattle.cgx_walk.specs.Walk.{StepMade, Stands}
-use Rattle.cgx_answers.specs.Answers.{OfItsKind}
+use Rattle.cgx_words.specs.Words.{placeOf}
+use Rattle.cgx_words.proofs.Places.{place-back}
+use Rattle.cgx_answers.specs.Lent.{placeLeft, nextFrom}
 
-go : (f : List ℕ) (o : Outcome) → Stands f o → OfItsKind o
-go f (Record v p) s = s .0
-go f Done s = tt
-go f (Refused n o p) s = tt
-
-pub of-its-kind : (f : List ℕ) (p : Place) (o : Outcome) → StepMade f p o → OfItsKind o
-of-its-kind f p o m = go f o (m .stands)
+pub goes-on : (o : Outcome) (p₀ p₁ : List ℕ) → p₁ ≡ placeLeft o p₀ → placeOf p₁ ≡ nextFrom o (placeOf p₀)
+goes-on (Record v q) p₀ p₁ e = ap placeOf e ∙ place-back q
+goes-on Done p₀ p₁ e = ap placeOf e
+goes-on (Refused n o q) p₀ p₁ e = ap placeOf e

@@ -7,13 +7,13 @@ use cgx_answers::PlainShown;
 use cgx_answers::PlainStart;
 use cgx_answers::PlainStep;
 use cgx_answers::PlainVerdict;
+use cgx_answers::leave;
 use cgx_answers::plain_box;
 use cgx_answers::plain_extent;
 use cgx_answers::plain_made;
 use cgx_answers::plain_point;
 use cgx_answers::plain_shown;
 use cgx_answers::plain_started;
-use cgx_answers::plain_step;
 use cgx_answers::plain_verdict;
 use cgx_check::check;
 use cgx_extent::extent;
@@ -25,22 +25,23 @@ use cgx_lists::box_at;
 use cgx_lists::point_at;
 use cgx_lists::text_inside;
 use cgx_normal::normal_form;
-use cgx_plain::places::PlainPlace;
-use cgx_plain::places::place_from;
+use cgx_view_words::ViewWords;
 use cgx_walk::start;
 use cgx_walk::step;
+use cgx_words::PlaceWords;
+use cgx_words::place_of;
 ghost use mathlib.Core.Path.{_≡_};
 ghost use mathlib.Core.Bool.{true};
 ghost use Prim.Native.Nat.{_≤_};
 ghost use lib.ListN.{length};
 ghost use Rattle.cgx_spec.specs.Files.{verdictOf};
-ghost use Rattle.cgx_walk.specs.Walk.{startOf, StepMade};
+ghost use Rattle.cgx_walk.specs.Walk.{startOf};
 ghost use Rattle.cgx_lists.specs.Lists.{boxOf, pointOf, within};
 ghost use Rattle.cgx_normal.specs.Made.{madeOf, leftIn};
 ghost use Rattle.cgx_layers.specs.Layers.{layerAnswer, shownOf, ShownIn};
 ghost use Rattle.cgx_extent.specs.Extent.{extentOf};
-ghost use Rattle.cgx_plain.specs.Plain.{placeFrom};
-ghost use Rattle.cgx_answers.specs.Answers.{verdictFrom, startedFrom, namesPlace, outcomeFrom, boxFrom, pointFrom, madeFrom, shownFrom, extentFrom};
+ghost use Rattle.cgx_answers.specs.Answers.{verdictFrom, startedFrom, namesPlace, boxFrom, pointFrom, madeFrom, shownFrom, extentFrom};
+ghost use Rattle.cgx_answers.specs.Lent.{StepLent};
 
 #[no_mangle]
 pub extern "C" fn cgx_check(file: &[u8]) -> PlainVerdict
@@ -59,12 +60,12 @@ pub extern "C" fn cgx_start(file: &[u8]) -> PlainStart
     plain_started(start(file))
 }
 
+// A view by value would cost half of the time of a step: the caller lends one, and the place.
 #[no_mangle]
-pub extern "C" fn cgx_step(file: &[u8], place: PlainPlace) -> PlainStep
-    ensures { λ r. ⌜ StepMade (now (file .entry)) (placeFrom place) (outcomeFrom r) ⌝ }
-    ensures numbers { λ r. ⌜ (r .status ≤ 2) × (r .view .kind ≤ 10) ⌝ }
+pub extern "C" fn cgx_step(file: &[u8], place: &mut PlaceWords, view: &mut ViewWords) -> PlainStep
+    ensures { λ r. ⌜ StepLent (now (file .entry)) (now (place .entry)) (now (view .entry)) r (now (place .exit)) (now (view .exit)) ⌝ }
 {
-    plain_step(step(file, place_from(place)))
+    leave(step(file, place_of(place)), place, view)
 }
 
 #[no_mangle]

@@ -9,7 +9,7 @@ use cgx_kinds::LayerNo;
 use cgx_kinds::Point;
 use cgx_makers::caption_frame;
 use cgx_makers::test_card;
-use cgx_plain::fields::PlainEight;
+use cgx_plain::PlainEight;
 use cgx_plain::places::PlainPlace;
 use cgx_plain::places::place_from;
 use cgx_writing::EndStyle;

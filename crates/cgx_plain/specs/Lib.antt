@@ -1,2 +1,2 @@
--- What plain places and views stand for.
+-- What plain places stand for.
 pub mod Plain

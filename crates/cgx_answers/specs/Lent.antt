@@ -1,0 +1,59 @@
+-- A step over the place and the view that C lends it: what it says, and what it leaves in them. Definitions only.
+use mathlib.Core.Path.{_≡_}
+use mathlib.Core.List.{List}
+use Prim.Native.Nat.{ℕ}
+use Rattle.cgx_spec.specs.declared.Offset.{Offset}
+use Rattle.cgx_spec.specs.declared.Offset.the-variants.{Nowhere}
+use Rattle.cgx_spec.specs.declared.Place.{Place}
+use Rattle.cgx_walk.specs.declared.Outcome.{Outcome}
+use Rattle.cgx_walk.specs.declared.Outcome.the-variants.{Record, Done, Refused}
+use Rattle.cgx_walk.specs.Walk.{StepMade}
+use Rattle.cgx_put.specs.Put.{put}
+use Rattle.cgx_plain.specs.Plain.{offsetFrom}
+use Rattle.cgx_words.specs.Words.{placeWords, placeOf}
+use Rattle.cgx_view_words.specs.ViewWords.{viewWords}
+use Rattle.cgx_answers.specs.declared.PlainStep.{PlainStep}
+
+-- The status, and a refusal's number and offset.
+pub record Said : Type 0 where
+  pub status : ℕ
+  pub number : ℕ
+  pub at : Offset
+
+abbrev pub saidBy : PlainStep → Said
+saidBy r = record { status = r .status; number = r .number; at = offsetFrom (r .at) }
+
+abbrev pub saidOf : Outcome → Said
+saidOf (Record v p) = record { status = 0; number = 0; at = Nowhere }
+saidOf Done = record { status = 1; number = 0; at = Nowhere }
+saidOf (Refused n o p) = record { status = 2; number = n; at = o }
+
+-- The words of a place p, after a step from there: only a record moves it.
+abbrev pub placeLeft : Outcome → List ℕ → List ℕ
+placeLeft (Record v q) p = placeWords q
+placeLeft Done p = p
+placeLeft (Refused n o q) p = p
+
+-- The words of a view: only a record fills it, from the first word on, and no word behind its own changes.
+abbrev pub viewLeft : Outcome → List ℕ → List ℕ
+viewLeft (Record v q) w = put w 0 (viewWords v)
+viewLeft Done w = w
+viewLeft (Refused n o q) w = w
+
+-- Where the next step goes on.
+abbrev pub nextFrom : Outcome → Place → Place
+nextFrom (Record v q) p = q
+nextFrom Done p = p
+nextFrom (Refused n o q) p = p
+
+-- A step over the file f: from the words p₀ and v₀ of a place and a view, it says r and leaves p₁ and v₁.
+pub record StepLent (f p₀ v₀ : List ℕ) (r : PlainStep) (p₁ v₁ : List ℕ) : Type 0 where
+  pub outcome : Outcome
+  -- It is what the step promises at the place that was lent,
+  pub made : StepMade f (placeOf p₀) outcome
+  -- the struct says which, and a refusal's number and offset,
+  pub answer : saidBy r ≡ saidOf outcome
+  -- and the lent memory holds it.
+  pub place : p₁ ≡ placeLeft outcome p₀
+  pub view : v₁ ≡ viewLeft outcome v₀
+  pub goes-on : placeOf p₁ ≡ nextFrom outcome (placeOf p₀)

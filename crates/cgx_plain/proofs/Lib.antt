@@ -1,2 +1,0 @@
--- `Views`: a view that is taken over member by member.
-pub mod Views
