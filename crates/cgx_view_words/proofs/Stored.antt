@@ -2,12 +2,13 @@
 use mathlib.Core.Path.{_≡_, refl, sym, ap, _∙_}
 use mathlib.Core.Bool.{Bool, true, false}
 use mathlib.Core.List.{List, [], _∷_}
-use Prim.Native.Nat.{ℕ, suc, _+_, _*_, _^_, _/_}
+use Prim.Native.Nat.{ℕ, suc, _+_, _*_, _^_, _≤_}
 use native.Mathlib.Omega.{arith}
 use native.Mathlib.Numerals.{add-one}
 use borrow.Author.Tests.{eq-eqb}
 use lib.Ieee.{Float, nan, inf, fin, isNan, eq, level, up, down}
-use lib.ListN.{getD, set}
+use lib.IntN.{ℤ}
+use lib.ListN.{length, getD, set}
 use Rattle.cgx_spec.specs.declared.Real.{Real}
 use Rattle.cgx_spec.specs.declared.Real.the-variants.{Exact, Inexact}
 use Rattle.cgx_kinds.specs.declared.OptionalReal.{OptionalReal}
@@ -15,18 +16,20 @@ use Rattle.cgx_kinds.specs.declared.OptionalReal.the-variants.{Missing, Given}
 use Rattle.cgx_kinds.specs.declared.Array.{Array}
 use Rattle.cgx_kinds.specs.declared.Array.the-variants.{Single, Of as ArrayOf}
 use Rattle.cgx_kinds.specs.declared.Span.{Span}
+use Rattle.cgx_kinds.specs.declared.Name.{Name}
 use Rattle.cgx_kinds.specs.declared.Name.the-variants.{Absent, Present}
 use Rattle.cgx_kinds.specs.declared.Library.{Library}
 use Rattle.cgx_kinds.specs.declared.Struct.{Struct}
 use Rattle.cgx_kinds.specs.declared.Layer.{Layer}
 use Rattle.cgx_kinds.specs.declared.Text.{Text}
 use Rattle.cgx_kinds.specs.declared.Sref.{Sref}
+use Rattle.cgx_kinds.specs.declared.Fields.{Fields}
 use Rattle.cgx_kinds.specs.declared.Fields.the-variants as fields
 use Rattle.cgx_kinds.specs.declared.View.{View}
 use Rattle.cgx_put.specs.Put.{put}
 use Rattle.cgx_words.specs.Words.{offsetWords, runWords}
 use Rattle.cgx_words.proofs.Places.{offset-words, run-words}
-use Rattle.cgx_view_words.specs.ViewWords.{longBits, shortBits, pointWord, dateWord, spanWords, realWords, optionalWords, arrayWords, layerWords, fieldWords, headWord, viewWords}
+use Rattle.cgx_view_words.specs.ViewWords.{longBits, shortBits, pointWord, dateWord, spanWords, listWords, realWords, optionalWords, arrayWords, layerWords, fieldWords, headWord, viewWords}
 
 -- ---- rows of stores
 
@@ -116,6 +119,31 @@ module _ (w : List ℕ) where
   unfolding put viewWords
   view-stored v w₁ a b c d e f g h qa qb qc qd qe qf qg qh q =
       q ∙ rw (qa, qb, qc, qd, qe, qf, qg, qh) (rw (offset-words (v .cell), offset-words (v .layer), run-words (v .run)) refl)
+
+-- ---- a view has room for every kind: a store of its words leaves none out
+
+layer-fits : (n d : ℤ) (m : Name) → length (layerWords n d m) ≤ 13
+unfolding layerWords spanWords
+layer-fits n d Absent = omega arith
+layer-fits n d (Present s) = omega arith
+
+fields-fit : (f : Fields) → length (fieldWords f) ≤ 13
+unfolding fieldWords spanWords listWords
+fields-fit (fields.Library l) = rw (real-words (l .munit), real-words (l .uunit)) (omega arith)
+fields-fit (fields.Struct s) = omega arith
+fields-fit (fields.Cprpty p) = omega arith
+fields-fit (fields.Property p) = omega arith
+fields-fit (fields.Layer l) = layer-fits (l .number .0) (l .datatype .0) (l .name)
+fields-fit (fields.Box b) = omega arith
+fields-fit (fields.Poly p) = omega arith
+fields-fit (fields.Wire w) = omega arith
+fields-fit (fields.Text t) = omega arith
+fields-fit (fields.Sref s) = rw (optional-words (s .angle), optional-words (s .magnif), array-words (s .array)) (omega arith)
+fields-fit fields.Endlib = omega arith
+
+pub view-fits : (v : View) → length (viewWords v) ≤ 22
+unfolding viewWords
+view-fits v = rw (offset-words (v .cell), offset-words (v .layer), run-words (v .run)) (omega (arith, fields-fit (v .fields)))
 
 -- ---- doubles: only a NaN differs from itself
 

@@ -38,6 +38,7 @@ ghost use Rattle.cgx_view_words.specs.ViewWords.{longBits, shortBits, pa
 
 pub type ViewWords = [u64; 22];
 
+// What every kind has, then its fields. What the caller's view holds behind them stays.
 pub fn put_view(w: &mut ViewWords, v: View)
     ensures { λ _. ⌜ now (w .exit) ≡ put (now (w .entry)) 0 (viewWords v) ⌝ }
 {
@@ -62,7 +63,7 @@ pub fn put_view(w: &mut ViewWords, v: View)
 fn head_word(k: Kind, flags: u8) -> u64
     ensures { λ r. ⌜ r ≡ headWord k flags ⌝ }
 {
-    kind_number(k) + 256 * (flags as u64)
+    kind_number(k) + 0x100 * (flags as u64)
 }
 
 fn kind_number(k: Kind) -> u64
@@ -116,6 +117,8 @@ fn put_fields(w: &mut ViewWords, f: Fields)
     }
 }
 
+// ---- a kind each
+
 fn put_library(w: &mut ViewWords, l: Library)
     ensures { λ _. ⌜ now (w .exit) ≡ put (now (w .entry)) 9 (fieldWords (Fields.Library l)) ⌝ }
 {
@@ -162,7 +165,7 @@ fn put_layer(w: &mut ViewWords, l: Layer)
             w[9] = layer_word(n, d);
         }
         Name::Present(s) => {
-            w[9] = layer_word(n, d) + 4294967296;
+            w[9] = layer_word(n, d) + 0x1_0000_0000;
             put_span(w, 10, s);
         }
     }
@@ -172,7 +175,7 @@ fn layer_word(number: i16, datatype: i16) -> u64
     ensures { λ r. ⌜ r ≡ shortBits number + 2 ^ 16 * shortBits datatype ⌝ }
     ensures small { λ r. ⌜ r < 2 ^ 32 ⌝ }
 {
-    short_word(number) + 65536 * short_word(datatype)
+    short_word(number) + 0x1_0000 * short_word(datatype)
 }
 
 fn put_wire(w: &mut ViewWords, x: Wire)
@@ -234,7 +237,7 @@ fn put_real(w: &mut ViewWords, i: usize, r: Real)
 {
     match r {
         Real::Exact(x) => {
-            w[i] = 257;
+            w[i] = 0x101;
             w[i + 1] = double_word(x);
             w[i + 2] = 0;
         }
@@ -249,9 +252,10 @@ fn put_real(w: &mut ViewWords, i: usize, r: Real)
 fn inexact_word(negative: bool, e: u8) -> u64
     ensures { λ r. ⌜ r ≡ 1 + 2 ^ 16 * bitOf negative + 2 ^ 24 * e ⌝ }
 {
-    1 + 65536 * bit(negative) + 16777216 * (e as u64)
+    1 + 0x1_0000 * bit(negative) + 0x100_0000 * (e as u64)
 }
 
+// The bits of a NaN are not defined: there is none in a file.
 fn double_word(x: f64) -> u64
     ensures { λ r. ⌜ r ≡ doubleBits x ⌝ }
 {
@@ -311,7 +315,7 @@ fn point_word(p: Point) -> u64
 fn pair_word(a: i32, b: i32) -> u64
     ensures { λ r. ⌜ r ≡ pairWord a b ⌝ }
 {
-    long_word(a) + 4294967296 * long_word(b)
+    long_word(a) + 0x1_0000_0000 * long_word(b)
 }
 
 fn date_word(d: Date) -> u64
@@ -319,11 +323,11 @@ fn date_word(d: Date) -> u64
 {
     let year = d.year;
     short_word(year)
-        + 65536 * (d.month as u64)
-        + 16777216 * (d.day as u64)
-        + 4294967296 * (d.hour as u64)
-        + 1099511627776 * (d.minute as u64)
-        + 281474976710656 * (d.second as u64)
+        + 0x1_0000 * (d.month as u64)
+        + 0x100_0000 * (d.day as u64)
+        + 0x1_0000_0000 * (d.hour as u64)
+        + 0x100_0000_0000 * (d.minute as u64)
+        + 0x1_0000_0000_0000 * (d.second as u64)
 }
 
 fn long_word(n: i32) -> u64

@@ -2,7 +2,7 @@
 use mathlib.Core.Path.{_≡_, refl, ap, _∙_}
 use mathlib.Core.Bool.{Bool, true, false}
 use mathlib.Core.List.{[], _∷_}
-use Prim.Native.Nat.{_^_, _/_}
+use Prim.Native.Nat.{ℕ, _^_, _/_}
 use lib.ListN.{getD}
 use Rattle.cgx_spec.specs.declared.Offset.{Offset}
 use Rattle.cgx_spec.specs.declared.Offset.the-variants.{Nowhere, At}
@@ -25,11 +25,25 @@ run-words (Of n k) = refl
 
 -- ---- places
 
-pub place-words : (p : Place) → let c = p .context in
+place-words : (p : Place) → let c = p .context in
     placeWords p ≡ p .at ∷ getD (offsetWords (c .cell)) 0 0 ∷ getD (offsetWords (c .cell)) 1 0 ∷ getD (offsetWords (c .layer)) 0 0 ∷ getD (offsetWords (c .layer)) 1 0
     ∷ getD (runWords (c .run)) 0 0 ∷ getD (runWords (c .run)) 1 0 ∷ getD (runWords (c .run)) 2 0 ∷ stateWord (c .library) (c .fresh) (c .ended) ∷ []
 unfolding placeWords
 place-words p = let c = p .context in rw (offset-words (c .cell), offset-words (c .layer), run-words (c .run)) refl
+
+pub place-stored : (p : Place) (b c d e f g h i : ℕ)
+    → b ≡ getD (offsetWords (p .context .cell)) 0 0
+    → c ≡ getD (offsetWords (p .context .cell)) 1 0
+    → d ≡ getD (offsetWords (p .context .layer)) 0 0
+    → e ≡ getD (offsetWords (p .context .layer)) 1 0
+    → f ≡ getD (runWords (p .context .run)) 0 0
+    → g ≡ getD (runWords (p .context .run)) 1 0
+    → h ≡ getD (runWords (p .context .run)) 2 0
+    → i ≡ stateWord (p .context .library) (p .context .fresh) (p .context .ended)
+    → p .at ∷ b ∷ c ∷ d ∷ e ∷ f ∷ g ∷ h ∷ i ∷ [] ≡ placeWords p
+place-stored p b c d e f g h i qb qc qd qe qf qg qh qi = cc (place-words p)
+
+-- ---- and back
 
 offset-back : (o : Offset) → offsetOf (getD (offsetWords o) 0 0) (getD (offsetWords o) 1 0) ≡ o
 unfolding offsetWords offsetOf isSet

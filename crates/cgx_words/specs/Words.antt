@@ -31,7 +31,7 @@ stateWord library fresh ended = bit library + 2 ^ 8 * bit fresh + 2 ^ 16 * bit e
 -- The nine words of a place.
 unfoldable pub placeWords : Place → List ℕ
 placeWords p = let c = p .context in
-    (p .at ∷ []) ++ offsetWords (c .cell) ++ offsetWords (c .layer) ++ runWords (c .run) ++ stateWord (c .library) (c .fresh) (c .ended) ∷ []
+    p .at ∷ offsetWords (c .cell) ++ offsetWords (c .layer) ++ runWords (c .run) ++ stateWord (c .library) (c .fresh) (c .ended) ∷ []
 
 -- A C bool is the low byte of a word: the bytes behind it may hold anything.
 unfoldable pub isSet : ℕ → Bool

@@ -24,9 +24,9 @@ pub fn place_of(w: &PlaceWords) -> Place
             library: is_set(state),
             cell,
             layer,
-            fresh: is_set(state / 256),
+            fresh: is_set(state / 0x100),
             run,
-            ended: is_set(state / 65536),
+            ended: is_set(state / 0x1_0000),
         },
     }
 }
@@ -59,6 +59,7 @@ fn run_of(present: u64, first: u64, count: u64) -> Run
     Run::Empty
 }
 
+// All words at once: a contract knows nothing of the length of a lent array, so that nine stores could not be said to be all of it.
 pub fn put_place(w: &mut PlaceWords, p: Place)
     ensures { λ _. ⌜ now (w .exit) ≡ placeWords p ⌝ }
 {
@@ -80,11 +81,14 @@ pub fn put_place(w: &mut PlaceWords, p: Place)
     ];
 }
 
+// The three bools stand in a row.
 fn state_word(library: bool, fresh: bool, ended: bool) -> u64
     ensures { λ r. ⌜ r ≡ stateWord library fresh ended ⌝ }
 {
-    bit(library) + 256 * bit(fresh) + 65536 * bit(ended)
+    bit(library) + 0x100 * bit(fresh) + 0x1_0000 * bit(ended)
 }
+
+// ---- the words that places and views share
 
 pub fn bit(b: bool) -> u64
     ensures { λ r. ⌜ r ≡ bitOf b ⌝ }

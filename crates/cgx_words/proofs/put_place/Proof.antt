@@ -1,6 +1,5 @@
 -- Nine words are stored at once.
-use mathlib.Core.Path.{sym, _∙_}
-use Rattle.cgx_words.proofs.Places.{place-words}
+use Rattle.cgx_words.proofs.Places.{place-stored}
 use borrow.Author.Needs.{needs}
 use Rattle.cgx_words.proofs.put_place.Statement.{statement}
 use Rattle.cgx_words.proofs.put_place.Tie as tie
@@ -30,7 +29,7 @@ state-word-requires : tie.Need-state-word-requires
 state-word-requires c κs = search needs
 
 returns : tie.Need-returns
-returns c = cc (place-words (c .before .before .before .before .before .before .before .before .before .before .args .p))
+returns c = place-stored (c .before .before .before .before .before .before .before .before .before .before .args .p) _ _ _ _ _ _ _ _ (c .before .before .before .before .before .before .before .before .offset-present .ensures) (c .before .before .before .before .before .before .before .offset-at .ensures) (c .before .before .before .before .before .before .offset-present2 .ensures) (c .before .before .before .before .before .offset-at2 .ensures) (c .before .before .before .before .run-present .ensures) (c .before .before .before .run-first .ensures) (c .before .before .run-count .ensures) (c .before .state-word .ensures)
 
 pub put-place-spec : {M : Type 1} → statement M
 put-place-spec =
