@@ -293,15 +293,15 @@ static void fields(blob file, const cgx_view *v) {
 }
 
 /* How many bytes of a view a step writes: all that stands behind them stays. */
-static size_t written(uint8_t kind, bool named) {
-    const cgx_fields *f = NULL;
+static size_t written(const cgx_view *v) {
+    const cgx_fields *f = &v->fields;
     const size_t fields = offsetof(cgx_view, fields);
-    switch (kind) {
+    switch (v->kind) {
     case CGX_LIBRARY: return fields + sizeof f->library;
     case CGX_STRUCT: return fields + sizeof f->structure;
     case CGX_CPRPTY:
     case CGX_PROPERTY: return fields + sizeof f->property;
-    case CGX_LAYER: return fields + (named ? sizeof f->layer : 8);
+    case CGX_LAYER: return fields + (f->layer.named ? sizeof f->layer : 8);
     case CGX_BOX: return fields + sizeof f->box;
     case CGX_POLY: return fields + sizeof f->poly;
     case CGX_WIRE: return fields + sizeof f->wire;
@@ -313,7 +313,7 @@ static size_t written(uint8_t kind, bool named) {
 
 static bool rest_stays(const cgx_view *v) {
     size_t i;
-    for (i = written(v->kind, v->fields.layer.named); i < sizeof *v; i++) {
+    for (i = written(v); i < sizeof *v; i++) {
         if (((const uint8_t *)v)[i] != 0) return false;
     }
     return true;
