@@ -40,7 +40,7 @@ pub fn best_of(
     mut c: impl FnMut(),
     mut bare: impl FnMut(),
 ) -> Best {
-    let mut contenders: [&mut dyn FnMut(); 4] = [&mut archive, &mut rust, &mut c, &mut bare];
+    let contenders: [&mut dyn FnMut(); 4] = [&mut archive, &mut rust, &mut c, &mut bare];
     let mut best = [f64::MAX; 4];
     for round in 0..rounds {
         // Each round begins with another one: what the one before has left in
