@@ -29,7 +29,7 @@ use Rattle.cgx_kinds.specs.declared.View.{View}
 use Rattle.cgx_put.specs.Put.{put}
 use Rattle.cgx_words.specs.Words.{offsetWords, runWords}
 use Rattle.cgx_words.proofs.Places.{offset-words, run-words}
-use Rattle.cgx_view_words.specs.ViewWords.{longBits, shortBits, pointWord, dateWord, spanWords, listWords, realWords, optionalWords, arrayWords, layerWords, fieldWords, headWord, viewWords}
+use Rattle.cgx_view_words.specs.ViewWords.{longBits, pointWord, dateWord, spanWords, listWords, realWords, optionalWords, arrayWords, layerWord, layerWords, fieldWords, headWord, viewWords}
 
 -- ---- rows of stores
 
@@ -86,12 +86,12 @@ module _ (w : List ℕ) where
   unfolding put
   number-stored n ws w₁ a qa q = q ∙ rw qa refl
 
-  pub unnamed-stored : (l : Layer) (a : ℕ) → l .name ≡ Absent → a ≡ shortBits (l .number .0) + 2 ^ 16 * shortBits (l .datatype .0)
+  pub unnamed-stored : (l : Layer) (a : ℕ) → l .name ≡ Absent → a ≡ layerWord (l .number .0) (l .datatype .0)
       → set w 9 a ≡ put w 9 (fieldWords (fields.Layer l))
   unfolding put fieldWords layerWords
   unnamed-stored l a e q = rw (e, q) refl
 
-  pub named-stored : (l : Layer) (s : Span) (w₁ : List ℕ) (a : ℕ) → l .name ≡ Present s → a ≡ shortBits (l .number .0) + 2 ^ 16 * shortBits (l .datatype .0)
+  pub named-stored : (l : Layer) (s : Span) (w₁ : List ℕ) (a : ℕ) → l .name ≡ Present s → a ≡ layerWord (l .number .0) (l .datatype .0)
       → w₁ ≡ put (set w 9 (a + 2 ^ 32)) 10 (spanWords s) → w₁ ≡ put w 9 (fieldWords (fields.Layer l))
   unfolding put fieldWords layerWords
   named-stored l s w₁ a e qa q = q ∙ rw (e, qa) refl

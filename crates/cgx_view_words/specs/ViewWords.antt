@@ -68,10 +68,13 @@ unfoldable pub arrayWords : Array → List ℕ
 arrayWords Single = 0 ∷ 0 ∷ 0 ∷ 0 ∷ []
 arrayWords (Of cols rows across up) = pairWord cols rows ∷ pointWord across ∷ pointWord up ∷ 1 ∷ []
 
+unfoldable pub layerWord : ℤ → ℤ → ℕ
+layerWord number datatype = shortBits number + 2 ^ 16 * shortBits datatype
+
 -- The layer's number, its datatype and whether it has a name; the name, if it has one.
 unfoldable pub layerWords : ℤ → ℤ → Name → List ℕ
-layerWords number datatype Absent = (shortBits number + 2 ^ 16 * shortBits datatype) ∷ []
-layerWords number datatype (Present s) = (shortBits number + 2 ^ 16 * shortBits datatype + 2 ^ 32) ∷ spanWords s
+layerWords number datatype Absent = layerWord number datatype ∷ []
+layerWords number datatype (Present s) = (layerWord number datatype + 2 ^ 32) ∷ spanWords s
 
 -- The words of a kind's fields: a union in C, of which no more is stored than the kind has.
 unfoldable pub fieldWords : Fields → List ℕ

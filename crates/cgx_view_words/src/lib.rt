@@ -1,7 +1,5 @@
 // Views in a C caller's memory, as words of eight bytes: a store for each kind, of no more than the kind has.
 use cgx_kinds::Array;
-use cgx_kinds::Boxes;
-use cgx_kinds::Cprpty;
 use cgx_kinds::Date;
 use cgx_kinds::Fields;
 use cgx_kinds::Layer;
@@ -9,8 +7,6 @@ use cgx_kinds::Library;
 use cgx_kinds::Name;
 use cgx_kinds::OptionalReal;
 use cgx_kinds::Point;
-use cgx_kinds::Poly;
-use cgx_kinds::Property;
 use cgx_kinds::Repeat;
 use cgx_kinds::Span;
 use cgx_kinds::Sref;
@@ -34,7 +30,7 @@ ghost use Prim.Native.Nat.{_+_, _*_, _^_, _<_, _≤_};
 ghost use Rattle.cgx_spec.specs.Restated.{typeByte};
 ghost use Rattle.cgx_put.specs.Put.{put};
 ghost use Rattle.cgx_words.specs.Words.{bit as bitOf};
-ghost use Rattle.cgx_view_words.specs.ViewWords.{longBits, shortBits, pairWord, pointWord, dateWord, spanWords, listWords, doubleBits, realWords, optionalWords, arrayWords, fieldWords, headWord, viewWords};
+ghost use Rattle.cgx_view_words.specs.ViewWords.{longBits, shortBits, pairWord, pointWord, dateWord, spanWords, listWords, doubleBits, realWords, optionalWords, arrayWords, layerWord, fieldWords, headWord, viewWords};
 
 pub type ViewWords = [u64; 22];
 
@@ -172,7 +168,7 @@ fn put_layer(w: &mut ViewWords, l: Layer)
 }
 
 fn layer_word(number: i16, datatype: i16) -> u64
-    ensures { λ r. ⌜ r ≡ shortBits number + 2 ^ 16 * shortBits datatype ⌝ }
+    ensures { λ r. ⌜ r ≡ layerWord number datatype ⌝ }
     ensures small { λ r. ⌜ r < 2 ^ 32 ⌝ }
 {
     short_word(number) + 0x1_0000 * short_word(datatype)

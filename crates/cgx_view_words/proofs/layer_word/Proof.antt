@@ -3,7 +3,7 @@ use mathlib.Core.Path.{_≡_, ap, _∙_}
 use native.Mathlib.Omega.{arith}
 use mir.Syntax.{w16}
 use Rattle.cgx_numbers.proofs.Signed.{back}
-use Rattle.cgx_view_words.specs.ViewWords.{shortBits}
+use Rattle.cgx_view_words.specs.ViewWords.{shortBits, layerWord}
 use borrow.Author.Needs.{needs}
 use Rattle.cgx_view_words.proofs.layer_word.Statement.{statement}
 use Rattle.cgx_view_words.proofs.layer_word.Tie as tie
@@ -21,6 +21,7 @@ add-result : tie.Need-add-result
 add-result c = search needs
 
 returns : tie.Need-returns
+unfolding layerWord
 returns c = let s = c .before .before in
     let n : c .before .short-word .result ≡ shortBits (s .args .number) = c .before .short-word .ensures .0 ∙ ap shortBits (back w16 (s .fits .number .sfits)) in
     let d : c .short-word2 .result ≡ shortBits (s .args .datatype) = c .short-word2 .ensures .0 ∙ ap shortBits (back w16 (s .fits .datatype .sfits)) in (omega arith, omega arith)

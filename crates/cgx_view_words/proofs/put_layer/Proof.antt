@@ -1,9 +1,7 @@
 -- By cases on the name.
 use mathlib.Core.Path.{ap₂, _∙_}
-use Prim.Native.Nat.{_+_, _*_, _^_}
-use Rattle.cgx_view_words.specs.ViewWords.{shortBits}
+use Rattle.cgx_view_words.specs.ViewWords.{layerWord}
 use Rattle.cgx_view_words.proofs.Stored.{unnamed-stored, named-stored}
-use lib.IntN.{ℤ}
 use mir.Syntax.{w16}
 use Rattle.cgx_numbers.proofs.Signed.{back}
 use borrow.Author.Needs.{needs}
@@ -36,11 +34,11 @@ put-span-requires c κs = search needs
 
 returns : tie.Need-returns
 returns c = let a = c .before .before .before .before .before .before .before .args in
-    unnamed-stored (a .w .now) (a .l) _ (c .before .enum-told .given .1) (c .layer-word .ensures .0 ∙ ap₂ (λ (n d : ℤ). shortBits n + 2 ^ 16 * shortBits d) (back w16 (c .before .before .before .before .struct-told .given .0 .1)) (back w16 (c .before .before .before .struct-told2 .given .0 .1)))
+    unnamed-stored (a .w .now) (a .l) _ (c .before .enum-told .given .1) (c .layer-word .ensures .0 ∙ ap₂ layerWord (back w16 (c .before .before .before .before .struct-told .given .0 .1)) (back w16 (c .before .before .before .struct-told2 .given .0 .1)))
 
 returns-2 : tie.Need-returns-2
 returns-2 c = let a = c .before .before .before .before .before .before .before .before .before .before .args in
-    named-stored (a .w .now) (a .l) (c .before .before .before .before .name .given .0 .0) _ _ (c .before .before .before .before .name .given .1) (c .before .before .layer-word2 .ensures .0 ∙ ap₂ (λ (n d : ℤ). shortBits n + 2 ^ 16 * shortBits d) (back w16 (c .before .before .before .before .before .before .before .struct-told .given .0 .1)) (back w16 (c .before .before .before .before .before .before .struct-told2 .given .0 .1))) (c .put-span .ensures)
+    named-stored (a .w .now) (a .l) (c .before .before .before .before .name .given .0 .0) _ _ (c .before .before .before .before .name .given .1) (c .before .before .layer-word2 .ensures .0 ∙ ap₂ layerWord (back w16 (c .before .before .before .before .before .before .before .struct-told .given .0 .1)) (back w16 (c .before .before .before .before .before .before .struct-told2 .given .0 .1))) (c .put-span .ensures)
 
 pub put-layer-spec : {M : Type 1} → statement M
 put-layer-spec =
