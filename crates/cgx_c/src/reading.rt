@@ -60,7 +60,7 @@ pub extern "C" fn cgx_start(file: &[u8]) -> PlainStart
     plain_started(start(file))
 }
 
-// A view by value would cost half of the time of a step: the caller lends one, and the place.
+// The caller lends the place and the view: an answer by value would hold the members of all kinds, which are then merged on the stack at each step.
 #[no_mangle]
 pub extern "C" fn cgx_step(file: &[u8], place: &mut PlaceWords, view: &mut ViewWords) -> PlainStep
     ensures { λ r. ⌜ StepLent (now (file .entry)) (now (place .entry)) (now (view .entry)) r (now (place .exit)) (now (view .exit)) ⌝ }
