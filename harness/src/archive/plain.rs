@@ -708,3 +708,76 @@ impl From<PlainAnswer> for Answer {
         }
     }
 }
+
+// ---- what is lent is looked at
+
+#[cfg(test)]
+mod tests {
+    use super::*;
+
+    fn answer(status: u8) -> PlainStep {
+        PlainStep {
+            status,
+            number: 6,
+            at: Some(4).into(),
+        }
+    }
+
+    /// A view of an ENDLIB at 4, as a step writes it.
+    fn endlib() -> Lent {
+        let mut lent = Lent::new(Place::START);
+        lent.view[..9].copy_from_slice(&[10, 4, 0, 0, 0, 0, 0, 0, 0]);
+        lent
+    }
+
+    #[test]
+    fn padding_says_nothing() {
+        let mut lent = Lent::new(Place::START);
+        assert_eq!(Place::from(unsafe { *lent.place() }), Place::START);
+    }
+
+    #[test]
+    fn what_stays_is_taken() {
+        let old = Lent::new(Place::START);
+        assert!(matches!(old.answered(&old, answer(1)), Step::Done));
+        assert!(matches!(
+            old.answered(&old, answer(2)),
+            Step::Refused { number: 6, .. }
+        ));
+        assert!(matches!(
+            endlib().answered(&old, answer(0)),
+            Step::Record(..)
+        ));
+    }
+
+    #[test]
+    #[should_panic(expected = "left its mark")]
+    fn a_refusal_that_moves_the_place() {
+        let old = Lent::new(Place::START);
+        let mut lent = old;
+        lent.place[0] += 2;
+        lent.answered(&old, answer(2));
+    }
+
+    #[test]
+    #[should_panic(expected = "left its mark")]
+    fn an_end_that_fills_the_view() {
+        endlib().answered(&Lent::new(Place::START), answer(1));
+    }
+
+    #[test]
+    #[should_panic(expected = "fields of another kind")]
+    fn a_record_that_writes_too_much() {
+        let mut lent = endlib();
+        lent.view[9] = 0;
+        lent.answered(&Lent::new(Place::START), answer(0));
+    }
+
+    #[test]
+    #[should_panic(expected = "beside what it was lent")]
+    fn a_record_that_writes_beside() {
+        let mut lent = endlib();
+        lent.behind = 0;
+        lent.answered(&Lent::new(Place::START), answer(0));
+    }
+}
