@@ -1,3 +1,4 @@
 pub mod Hulls
 pub mod Searches
+pub mod Turns
 pub mod Examples

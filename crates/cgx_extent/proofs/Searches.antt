@@ -180,18 +180,18 @@ module _ (o : Option Kind) (b : List ℕ) where
       go (Points from) = refl
       go Neither = refl
 
-pub say-refused : {v : Verdict} {n p : ℕ} → v ≡ refused n p → (s : Search) → Refused n (At p) ≡ answerOn v (foundIn s [])
-say-refused {n = n} {p = p} q s = sym (ap (λ (x : Verdict). answerOn x (foundIn s [])) q ∙ refused-is n p (foundIn s []))
+pub say-refused : (n p : ℕ) (s : Search) → Refused n (At p) ≡ answerOn (refused n p) (foundIn s [])
+say-refused n p s = sym (refused-is n p (foundIn s []))
 
-module _ {v : Verdict} {s : Search} (q : v ≡ accepted) where
-  pub say-none : {k : ℕ} → s ≡ Before k → Refused 16 Nowhere ≡ answerOn v (foundIn s [])
+module _ {s : Search} where
+  pub say-none : {k : ℕ} → s ≡ Before k → Refused 16 Nowhere ≡ answerOn accepted (foundIn s [])
   unfolding answerOn foundIn around
-  say-none {k} e = sym (ap (λ (x : Verdict). answerOn x (foundIn s [])) q ∙ ap (λ (x : Search). answerOn accepted (foundIn x [])) e ∙ ap (λ (x : Option (List Known)). answerOn accepted (around x)) (no-cell k))
+  say-none {k} e = sym (ap (λ (x : Search). answerOn accepted (foundIn x [])) e ∙ ap (λ (x : Option (List Known)). answerOn accepted (around x)) (no-cell k))
 
-  pub say-inside : {r : Rectangle} → s ≡ Inside r → Found r ≡ answerOn v (foundIn s [])
+  pub say-inside : {r : Rectangle} → s ≡ Inside r → Found r ≡ answerOn accepted (foundIn s [])
   unfolding answerOn foundIn upToStruct points
-  say-inside {r} e = sym (ap (λ (x : Verdict). answerOn x (foundIn s [])) q ∙ ap (λ (x : Search). answerOn accepted (foundIn x [])) e ∙ ap Found (hull-none r))
+  say-inside {r} e = sym (ap (λ (x : Search). answerOn accepted (foundIn x [])) e ∙ ap Found (hull-none r))
 
-  pub say-behind : {r : Rectangle} → s ≡ Behind r → Found r ≡ answerOn v (foundIn s [])
+  pub say-behind : {r : Rectangle} → s ≡ Behind r → Found r ≡ answerOn accepted (foundIn s [])
   unfolding answerOn foundIn
-  say-behind e = sym (ap (λ (x : Verdict). answerOn x (foundIn s [])) q ∙ ap (λ (x : Search). answerOn accepted (foundIn x [])) e)
+  say-behind e = sym (ap (λ (x : Search). answerOn accepted (foundIn x [])) e)

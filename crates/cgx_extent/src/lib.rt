@@ -5,20 +5,22 @@ ghost use mathlib.Core.List.{[]};
 ghost use Prim.Native.Nat.{_+_, _≤_};
 ghost use lib.ListN.{length, drop};
 ghost use Rattle.cgx_spec.specs.Numbers.{longsOf};
+ghost use Rattle.cgx_spec.specs.declared.Verdict.the-variants.{Accepted};
 ghost use Rattle.cgx_spec.specs.Kinds.{kindOf};
 ghost use Rattle.cgx_extent.specs.Extent.{shareOf, pairs, minZ, maxZ, wider as widerBy, widest, answerOn, extentOf};
 ghost use Rattle.cgx_extent.specs.Search.{shareIf, hullFrom, entered as enteredAt, after, foundIn};
 use cgx_kinds::Point;
 use cgx_numbers::long_at;
+use cgx_phases::Phase;
+use cgx_phases::fault_behind;
+use cgx_phases::has_ended;
+use cgx_phases::phase_after;
 use cgx_records::kind_of;
-use cgx_records::start_context;
 use cgx_spec::Kind;
 use cgx_spec::Offset;
-use cgx_spec::Verdict;
-use cgx_steps::Stepped;
-use cgx_steps::context_after;
+use cgx_steps::Head;
+use cgx_steps::head_at;
 use cgx_steps::opening_fault;
-use cgx_steps::step_at;
 
 #[repr(C)]
 pub struct Sides {
@@ -65,43 +67,57 @@ pub fn extent(file: &[u8], k: usize) -> CellExtent
             at: Offset::At(0),
         };
     }
-    let mut c = start_context();
+    let mut p = Phase::Start;
     let mut at: usize = 4;
     let mut search = Search::Before(k);
     loop {
-        let found = step_at(file, c, at);
-        match found {
-            Stepped::Stop(v) => {
-                return answer(v, search);
+        if has_ended(p) {
+            if at == file.len() {
+                return answer(search);
             }
-            Stepped::Go(n) => {
+            return CellExtent::Refused {
+                number: 13,
+                at: Offset::At(at),
+            };
+        }
+        let found = head_at(file, at);
+        match found {
+            Head::Bad(number) => {
+                return CellExtent::Refused {
+                    number,
+                    at: Offset::At(at),
+                };
+            }
+            Head::Sized(n) => {
                 let from = at + 4;
                 let to = at + n;
-                search = past(search, file[at + 2], &file[from..to]);
-                c = context_after(c, at, file[at + 2]);
+                let t = file[at + 2];
+                p = phase_after(p, t);
+                let number = fault_behind(p, t, file[at + 3], &file[from..to]);
+                if number != 0 {
+                    return CellExtent::Refused {
+                        number,
+                        at: Offset::At(at),
+                    };
+                }
+                search = past(search, t, &file[from..to]);
                 at += n;
             }
         }
     }
 }
 
-// The verdict comes first, then 16.
-fn answer(v: Verdict, s: Search) -> CellExtent
-    ensures { λ r. ⌜ r ≡ answerOn v (foundIn s []) ⌝ }
+// Of a file that is accepted: 16 where it has no such cell.
+fn answer(s: Search) -> CellExtent
+    ensures { λ r. ⌜ r ≡ answerOn Accepted (foundIn s []) ⌝ }
 {
-    match v {
-        Verdict::Refused { number, at } => CellExtent::Refused {
-            number,
-            at: Offset::At(at),
+    match s {
+        Search::Before(_) => CellExtent::Refused {
+            number: 16,
+            at: Offset::Nowhere,
         },
-        Verdict::Accepted => match s {
-            Search::Before(_) => CellExtent::Refused {
-                number: 16,
-                at: Offset::Nowhere,
-            },
-            Search::Inside(r) => CellExtent::Found(r),
-            Search::Behind(r) => CellExtent::Found(r),
-        },
+        Search::Inside(r) => CellExtent::Found(r),
+        Search::Behind(r) => CellExtent::Found(r),
     }
 }
 
