@@ -50,7 +50,7 @@ pub fn long_at(s: &[u8], at: usize) -> i32
     long_of(s[at], s[at + 1], s[at + 2], s[at + 3])
 }
 
-// The eight bytes of a real as one number.
+// Eight bytes as one number: a real, a point, or a word that is copied.
 pub fn word_of(b: &[u8]) -> u64
     requires { ⌜ length (now b) ≡ 8 ⌝ }
     ensures { λ r. ⌜ r ≡ number (now (b .entry)) ⌝ }

@@ -1,5 +1,5 @@
-// One record of a file: its header, the rules on it where it stands, and the context after it. The whole-file check, the walk and
-// the normal form go from record to record by these.
+// One record of a file: its header, the rules on it where it stands, and the context after it. The walk and the listing go from record
+// to record by these; the whole-file check and the extent take the header, and go by phases.
 ghost use mathlib.Core.Path.{_≡_};
 ghost use Prim.Native.Nat.{_<_, _≤_};
 ghost use lib.ListN.{length, drop};
