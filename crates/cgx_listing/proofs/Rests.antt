@@ -13,7 +13,7 @@ use Rattle.cgx_spec.specs.declared.Kind.the-variants.{Library, Struct, Cprpty, 
 use Rattle.cgx_spec.specs.declared.Context.{Context}
 use Rattle.cgx_spec.specs.declared.Verdict.{Verdict}
 use Rattle.cgx_spec.specs.declared.Verdict.the-variants.{Accepted as accepted, Refused as refused}
-use Rattle.cgx_spec.specs.Demands.{Named}
+use Rattle.cgx_spec.specs.Demands.{NamedFrom}
 use Rattle.cgx_spec.specs.Fields.{join}
 use Rattle.cgx_spec.specs.Kinds.{kindOf}
 use Rattle.cgx_spec.specs.Order.{start, next}
@@ -118,7 +118,7 @@ here c at bs = one (c .ended) bs
     one true bs = end bs
     one false bs = two (cut bs)
 
-verdict-short : (v : Verdict) (at : ℕ) → at < 100000 → Named v → Here at (stop v) → length (lastLine v) ≤ 23
+verdict-short : (v : Verdict) (at : ℕ) → at < 100000 → NamedFrom 3 v → Here at (stop v) → length (lastLine v) ≤ 23
 unfolding lastLine
 verdict-short accepted at h n e = omega arith
 verdict-short (refused k p) at h n e = refusal-short k p (omega arith) (let q : p ≡ at = e in omega arith)
@@ -166,7 +166,7 @@ module _ (f : List ℕ) (c : Context) (at : ℕ) (out mid : List ℕ) (to : ℕ)
 
       pub last-fits : to + length (lastLine v) ≤ length mid
       last-fits =
-          let n : Named v = subst (StepNamed (drop at f)) stops (step-named c at (drop at f)) in
+          let n : NamedFrom 3 v = subst (StepNamed (drop at f)) stops (step-named c at (drop at f)) in
           let i : Here at (stop v) = subst (Here at) stops (here c at (drop at f)) in
           let s = h .short in
           omega (arith, verdict-short v at (omega arith) n i, mid-long)

@@ -1,7 +1,7 @@
--- A walk step by step gives the views and the verdict of the whole-file walk.
+-- A walk step by step gives the views and the verdict of the whole-file walk; and a view means what its record means.
 use mathlib.Core.Path.{_≡_, refl, sym, ap, _∙_, subst}
 use mathlib.Core.Bool.{Bool, true, false, _||_, cond}
-use mathlib.Core.List.{List, [], _∷_, _++_}
+use mathlib.Core.List.{List, [], _∷_, _++_, map}
 use mathlib.Core.Option.{Option, none, some}
 use Prim.Native.Nat.{ℕ, zero, suc, _+_, _*_, _%_, _-_, _≤_, _<_}
 use native.Mathlib.Omega.{arith}
@@ -21,8 +21,8 @@ use Rattle.cgx_spec.specs.declared.Verdict.the-variants.{Accepted as acc
 use Rattle.cgx_spec.specs.Dates.{within}
 use Rattle.cgx_spec.specs.Kinds.{kindOf, count}
 use Rattle.cgx_spec.specs.Order.{start, longer, next}
-use Rattle.cgx_spec.specs.Records.{Rec, size, faultOf, Placed, contextAfter, viewOf}
-use Rattle.cgx_spec.specs.Files.{Cut, bad, found, cutBody, cut, Step, stop, go, settle, judge, finish, step, Walk, walk, header, opening, begin, walkOf, verdictOf, ifSeen, views, viewsOf}
+use Rattle.cgx_spec.specs.Records.{Rec, size, Meaning, meaningOf, faultOf, Placed, contextAfter, viewOf, viewMeaning}
+use Rattle.cgx_spec.specs.Files.{Cut, bad, found, cutBody, cut, Step, stop, go, settle, judge, finish, step, Walk, walk, header, opening, begin, walkOf, verdictOf, recordsOf, ifKnown, known, sequence, meanings, ifSeen, views, viewsOf}
 use Rattle.cgx_spec.specs.Walking.{firstPlace, placeAfter, offsetUpTo, runUpTo, forged, seen, refusedAt, ending, answer, stepOf, Reads, andThen, reads}
 use Rattle.cgx_spec.specs.Written.{last}
 use Rattle.cgx_spec.specs.Demands.{Reading}
@@ -243,5 +243,20 @@ steps bs =
     ap (λ (b : Bool). reads (length f) f (cond b (refusedAt 16 Nowhere) (answer (length f) (step start 4 bs)))) g
     ∙ reading f (length f) start 4 (length f) (length f) h (omega arith) (omega arith) (omega arith)
 
+-- ---- what is read is what is meant
+
+views-of : (ps : List Placed) → map viewMeaning (views ps) ≡ meanings (known (map (λ p. p .rec) ps))
+unfolding views known
+views-of [] = refl
+views-of (p ∷ ps) = one (kindOf (p .rec .type)) (views-of ps)
+  where
+    one : (o : Option Kind) → map viewMeaning (views ps) ≡ meanings (known (map (λ (q : Placed). q .rec) ps)) → map viewMeaning (ifSeen o p (views ps)) ≡ meanings (ifKnown o (p .rec) (known (map (λ (q : Placed). q .rec) ps)))
+    one none ih = ih
+    one (some k) ih = unfold viewOf meaningOf in (ap (λ (t : List Meaning). meaningOf k (p .rec) ∷ t) ih)
+
+views-mean : (f : List ℕ) → map viewMeaning (viewsOf f) ≡ meanings (sequence f)
+unfolding viewsOf sequence recordsOf
+views-mean f = views-of (walkOf f .records)
+
 pub reading-law : Reading
-reading-law = record { whole = λ f h a. file-sound f h a .0; places = file-places; steps = steps; back = read-back }
+reading-law = record { whole = λ f h a. file-sound f h a .0; places = file-places; steps = steps; views-mean = views-mean; back = read-back }

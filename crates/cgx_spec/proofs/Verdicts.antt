@@ -1,4 +1,5 @@
--- Every file is accepted or refused with a number from 1 to 13: the walk has steps enough.
+-- Every file is accepted or refused with a number from 1 to 13, and every step is refused with 3 to 13 or 16: the walk has steps enough.
+use mathlib.Core.Path.{refl}
 use mathlib.Core.Bool.{Bool, true, false, _&&_, _||_, cond}
 use mathlib.Core.List.{List, [], _∷_}
 use mathlib.Core.Option.{Option, none, some}
@@ -8,23 +9,27 @@ use lib.Dec.{ltb, eqb}
 use lib.ListN.{length, take, drop, length-drop}
 use Rattle.cgx_spec.specs.declared.Kind.{Kind}
 use Rattle.cgx_spec.specs.declared.Context.{Context}
-use Rattle.cgx_spec.specs.declared.Verdict.the-variants.{Refused as refused}
+use Rattle.cgx_spec.specs.declared.Offset.the-variants.{Nowhere}
+use Rattle.cgx_spec.specs.declared.Place.{Place}
+use Rattle.cgx_spec.specs.declared.Verdict.{Verdict}
+use Rattle.cgx_spec.specs.declared.Verdict.the-variants.{Accepted as accepted, Refused as refused}
 use Rattle.cgx_spec.specs.Numbers.{number}
 use Rattle.cgx_spec.specs.Kinds.{kindOf}
 use Rattle.cgx_spec.specs.Order.{start, allowed}
-use Rattle.cgx_spec.specs.Records.{Rec, size, Rule, broken, rules, faultOf, contextAfter}
+use Rattle.cgx_spec.specs.Records.{Rec, size, Rule, broken, rules, faultOf, contextAfter, viewOf}
 use Rattle.cgx_spec.specs.Files.{Cut, bad, found, cutBody, cut, Step, stop, go, settle, judge, finish, step, walk, opening, opened, begin, walkOf, verdictOf}
-use Rattle.cgx_spec.specs.Demands.{Named, Verdicts}
+use Rattle.cgx_spec.specs.Walking.{placeAfter, forged, seen, refusedAt, ending, answer, stepOf}
+use Rattle.cgx_spec.specs.Demands.{NamedFrom, AnswerNamed, Verdicts}
 
 -- ---- a record
 
 abbrev NamedRule : Option ℕ → Type 0
 NamedRule none = Unit {0}
-NamedRule (some n) = (1 ≤ n) × (n ≤ 13)
+NamedRule (some n) = (3 ≤ n) × (n ≤ 13)
 
 abbrev NamedRules : List Rule → Type 0
 NamedRules [] = Unit {0}
-NamedRules (r ∷ rs) = (1 ≤ r .number) × (r .number ≤ 13) × NamedRules rs
+NamedRules (r ∷ rs) = (3 ≤ r .number) × (r .number ≤ 13) × NamedRules rs
 
 broken-named : (rs : List Rule) → NamedRules rs → NamedRule (broken rs)
 unfolding broken
@@ -43,7 +48,7 @@ rules-named here (some k) r = omega arith
 -- ---- a step
 
 abbrev CutNamed : List ℕ → Cut → Type 0
-CutNamed bs (bad n) = (1 ≤ n) × (n ≤ 13)
+CutNamed bs (bad n) = (3 ≤ n) × (n ≤ 13)
 CutNamed bs (found r rest) = length rest < length bs
 
 cut-named : (bs : List ℕ) → CutNamed bs (cut bs)
@@ -60,7 +65,7 @@ cut-named (a ∷ b ∷ t ∷ fl ∷ bs) = go (a * 256 + b) (eqb ((a * 256 + b) %
     go n false false = omega (arith, length-drop (n - 4) bs)
 
 abbrev pub StepNamed : List ℕ → Step → Type 0
-StepNamed bs (stop v) = Named v
+StepNamed bs (stop v) = NamedFrom 3 v
 StepNamed bs (go p rest) = length rest < length bs
 
 pub step-named : (c : Context) (at : ℕ) (bs : List ℕ) → StepNamed bs (step c at bs)
@@ -75,7 +80,7 @@ step-named c at bs = one (c .ended) bs (cut bs) (cut-named bs)
     two bs (bad n) h = h
     two bs (found r rest) h = three bs r rest h (faultOf c r) (broken-named (rules (allowed c (kindOf (r .type))) (kindOf (r .type)) r) (rules-named (allowed c (kindOf (r .type))) (kindOf (r .type)) r))
 
-    end : (bs : List ℕ) → Named (finish at bs)
+    end : (bs : List ℕ) → NamedFrom 3 (finish at bs)
     end [] = tt
     end (b ∷ bs) = omega arith
 
@@ -85,29 +90,60 @@ step-named c at bs = one (c .ended) bs (cut bs) (cut-named bs)
 
 -- ---- a walk
 
-walk-named : (k : ℕ) (bs : List ℕ) (st : Step) → StepNamed bs st → length bs ≤ k → Named (walk k st .verdict)
+late : (v : Verdict) → NamedFrom 3 v → NamedFrom 1 v
+late accepted h = tt
+late (refused n p) h = omega arith
+
+walk-named : (k : ℕ) (bs : List ℕ) (st : Step) → StepNamed bs st → length bs ≤ k → NamedFrom 1 (walk k st .verdict)
 unfolding walk
-walk-named zero bs (stop v) h l = h
-walk-named (suc k) bs (stop v) h l = h
+walk-named zero bs (stop v) h l = late v h
+walk-named (suc k) bs (stop v) h l = late v h
 walk-named zero bs (go p rest) h l = absurd (omega arith)
 walk-named (suc k) bs (go p rest) h l =
     walk-named k rest (step (contextAfter p) (p .at + size (p .rec)) rest) (step-named (contextAfter p) (p .at + size (p .rec)) rest) (omega arith)
 
-begin-named : (f : List ℕ) → Named (verdictOf f)
-unfolding verdictOf walkOf begin opening
-begin-named [] = walk-named 0 [] (stop (refused 1 0)) (omega arith) (omega arith)
-begin-named (a ∷ []) = walk-named 1 [] (stop (refused 1 0)) (omega arith) (omega arith)
-begin-named (a ∷ b ∷ []) = walk-named 2 [] (stop (refused 1 0)) (omega arith) (omega arith)
-begin-named (a ∷ b ∷ c ∷ []) = walk-named 3 [] (stop (refused 1 0)) (omega arith) (omega arith)
+begin-named : (f : List ℕ) → NamedFrom 1 (verdictOf f)
+unfolding verdictOf walkOf begin opening walk
+begin-named [] = omega arith
+begin-named (a ∷ []) = omega arith
+begin-named (a ∷ b ∷ []) = omega arith
+begin-named (a ∷ b ∷ c ∷ []) = omega arith
 begin-named (a ∷ b ∷ c ∷ l ∷ bs) = go (eqb a 99 && eqb b 103 && eqb c 120) (eqb l 0)
   where
     n : ℕ
     n = suc (suc (suc (suc (length bs))))
 
-    go : (y z : Bool) → Named (walk n (opened (cond y (cond z 0 2) 1) bs) .verdict)
+    go : (y z : Bool) → NamedFrom 1 (walk n (opened (cond y (cond z 0 2) 1) bs) .verdict)
     go true true = walk-named n bs (step start 4 bs) (step-named start 4 bs) (omega arith)
-    go true false = walk-named n bs (stop (refused 2 0)) (omega arith) (omega arith)
-    go false z = walk-named n bs (stop (refused 1 0)) (omega arith) (omega arith)
+    go true false = omega arith
+    go false z = omega arith
+
+-- ---- a step from any place
+
+ending-named : (v : Verdict) → NamedFrom 3 v → AnswerNamed (ending v)
+unfolding ending
+ending-named accepted h = tt
+ending-named (refused n p) h = h
+
+answer-named : (k : ℕ) (bs : List ℕ) (st : Step) → StepNamed bs st → length bs ≤ k → AnswerNamed (answer k st)
+unfolding answer
+answer-named zero bs (stop v) h l = ending-named v h
+answer-named (suc k) bs (stop v) h l = ending-named v h
+answer-named zero bs (go p rest) h l = absurd (omega arith)
+answer-named (suc k) bs (go p rest) h l =
+    one (kindOf (p .rec .type)) (answer-named k rest (step (contextAfter p) (p .at + size (p .rec)) rest) (step-named (contextAfter p) (p .at + size (p .rec)) rest) (omega arith))
+  where
+    one : (o : Option Kind) → AnswerNamed (answer k (step (contextAfter p) (p .at + size (p .rec)) rest)) → AnswerNamed (elim o [ none ↦ answer k (step (contextAfter p) (p .at + size (p .rec)) rest) | some kd ↦ seen (viewOf kd p) (placeAfter p) ])
+    one none ih = ih
+    one (some kd) ih = tt
+
+steps-named : (f : List ℕ) (p : Place) → AnswerNamed (stepOf f p)
+unfolding stepOf
+steps-named f p = go (forged (length f) p)
+  where
+    go : (z : Bool) → AnswerNamed (cond z (refusedAt 16 Nowhere) (answer (length f) (step (p .context) (p .at) (drop (p .at) f))))
+    go true = refl
+    go false = answer-named (length f) (drop (p .at) f) (step (p .context) (p .at) (drop (p .at) f)) (step-named (p .context) (p .at) (drop (p .at) f)) (omega (arith, length-drop (p .at) f))
 
 pub verdicts : Verdicts
-verdicts = record { named = begin-named }
+verdicts = record { named = begin-named; steps-named = steps-named }

@@ -3,7 +3,7 @@
 use mathlib.Core.Path.{_≡_}
 use mathlib.Core.Logic.{_↔_}
 use mathlib.Core.Bool.{Bool, true}
-use mathlib.Core.List.{List, [], _∷_, _++_}
+use mathlib.Core.List.{List, [], _∷_, _++_, map}
 use mathlib.Core.Option.{none, some}
 use Prim.Native.Nat.{ℕ, _/_, _%_, _^_, _≤_, _<_}
 use lib.Count.{trailingZeros}
@@ -12,6 +12,8 @@ use lib.Ieee.{Float, fin, binary64, fits}
 use lib.IntN.{ℤ, pos}
 use lib.ListN.{length, getElem?}
 use Rattle.cgx_spec.specs.declared.Kind.{Kind}
+use Rattle.cgx_spec.specs.declared.Offset.the-variants.{Nowhere, At}
+use Rattle.cgx_spec.specs.declared.Place.{Place}
 use Rattle.cgx_spec.specs.declared.Verdict.{Verdict}
 use Rattle.cgx_spec.specs.declared.Verdict.the-variants.{Accepted as accepted, Refused as refused}
 use Rattle.cgx_spec.specs.declared.Real.the-variants.{Exact, Inexact}
@@ -21,22 +23,32 @@ use Rattle.cgx_spec.specs.Strings.{textOf, goodString}
 use Rattle.cgx_spec.specs.Fields.{join, lengthsFit}
 use Rattle.cgx_spec.specs.Kinds.{kindOf, goodFlags, flagsOf}
 use Rattle.cgx_spec.specs.Order.{start}
-use Rattle.cgx_spec.specs.Records.{Rec, size, bytesOf, piecesOf, Placed}
+use Rattle.cgx_spec.specs.Records.{Rec, size, bytesOf, piecesOf, Placed, viewMeaning}
 use Rattle.cgx_spec.specs.Files.{header, walkOf, verdictOf, Accepted, recordsOf, known, sequence, meanings, SameMeaning, normals, normalForm, viewsOf}
-use Rattle.cgx_spec.specs.Walking.{firstPlace, ending, stepOf, reads}
+use Rattle.cgx_spec.specs.Walking.{firstPlace, Answer, seen, done, refusedAt, ending, stepOf, reads}
 use Rattle.cgx_spec.specs.Written.{GoodFrom, placeAll, AddedTo}
 use Rattle.cgx_spec.specs.Restated.{typeByte, goodSize, highestFlags, FlagsAlike, IsString, Behind, lookBack}
 use Rattle.cgx_spec.specs.Specimens.{Holds, All, specimens, Drawing}
 
 -- ---- demand 1: every file gets an answer
 
-abbrev pub Named : Verdict → Type 0
-Named accepted = Unit {0}
-Named (refused n p) = (1 ≤ n) × (n ≤ 13)
+-- A refusal's number is in 01's table, from `lo` on.
+abbrev pub NamedFrom : ℕ → Verdict → Type 0
+NamedFrom lo accepted = Unit {0}
+NamedFrom lo (refused n p) = (lo ≤ n) × (n ≤ 13)
+
+-- A refused step names no place with 16, and a place with 3 to 13.
+abbrev pub AnswerNamed : Answer → Type 0
+AnswerNamed (seen v p) = Unit {0}
+AnswerNamed done = Unit {0}
+AnswerNamed (refusedAt n Nowhere) = n ≡ 16
+AnswerNamed (refusedAt n (At p)) = (3 ≤ n) × (n ≤ 13)
 
 pub record Verdicts : Type 0 where
   -- Every file is accepted, or refused with a number from 1 to 13.
-  pub named : (f : List ℕ) → Named (verdictOf f)
+  pub named : (f : List ℕ) → NamedFrom 1 (verdictOf f)
+  -- A step from any place, a made-up one too, gives a record, is done, or is refused so: "16, forged place", or a number of a record or of the end.
+  pub steps-named : (f : List ℕ) (p : Place) → AnswerNamed (stepOf f p)
 
 -- ---- demand 2: what is read, and read back
 
@@ -47,6 +59,8 @@ pub record Reading : Type 0 where
   pub places : (f : List ℕ) → Bytes f → Accepted f → walkOf f .records ≡ placeAll start 4 (recordsOf f)
   -- Step after step from the start gives exactly the views of the known records and then the verdict, for every file that begins well.
   pub steps : (bs : List ℕ) → let f = header ++ bs in reads (length f) f (stepOf f firstPlace) ≡ record { views = viewsOf f; last = ending (verdictOf f) }
+  -- What is read is what is meant: the meanings of the views, in order, are those of the sequence, of which demand 3 and the writer's round trip speak.
+  pub views-mean : (f : List ℕ) → map viewMeaning (viewsOf f) ≡ meanings (sequence f)
   -- Good records in an allowed order, written in normal form, make an accepted file of those records and their meaning.
   pub back : (rs : List Rec) → GoodFrom start 4 rs → let f = header ++ join bytesOf (normals (known rs)) in Accepted f × (recordsOf f ≡ normals (known rs)) × (meanings (sequence f) ≡ meanings (known rs))
 

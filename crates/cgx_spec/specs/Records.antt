@@ -102,3 +102,7 @@ viewOf k p =
       layer = contextAfter p .layer;
       run = cond (isObject k) (p .context .run) Empty;
     }
+
+-- What the record of a view means.
+abbrev pub viewMeaning : View → Meaning
+viewMeaning v = record { kind = v .kind; flags = flagsOf (v .kind) (v .flags); fields = v .fields }

@@ -1,11 +1,13 @@
 -- Demand 2 of the reader's answers, from the theorem on steps of the definitions.
-use mathlib.Core.Path.{_≡_, refl, sym, ap, _∙_}
+use mathlib.Core.Path.{_≡_, refl, sym, ap, _∙_, subst}
 use mathlib.Core.List.{List, _++_}
 use Prim.Native.Nat.{ℕ, zero, suc}
 use lib.ListN.{length}
 use Rattle.cgx_spec.specs.declared.Place.{Place}
 use Rattle.cgx_spec.specs.Files.{header, viewsOf, verdictOf, opening}
+use Rattle.cgx_spec.specs.Demands.{AnswerNamed}
 use Rattle.cgx_spec.specs.Walking.{firstPlace, ending, stepOf, Reads, andThen, reads}
+use Rattle.cgx_spec.proofs.Verdicts.{verdicts}
 use Rattle.cgx_spec.proofs.Steps.{reading-law}
 use Rattle.cgx_kinds.specs.Meant.{viewMeant}
 use Rattle.cgx_walk.specs.declared.Outcome.{Outcome}
@@ -33,5 +35,8 @@ reads-all bs next h =
     let f = header ++ bs in
     given-is f next h (length f) (next firstPlace) ∙ ap (reads (length f) f) (h firstPlace .means) ∙ reading-law .steps bs
 
+steps-named : (f : List ℕ) (p : Place) (r : Outcome) → StepMade f p r → AnswerNamed (answerMeant f r)
+steps-named f p r h = subst AnswerNamed (sym (h .means)) (verdicts .steps-named f p)
+
 pub walk-demand : WalkDemand
-walk-demand = record { starts = starts; reads-all = reads-all }
+walk-demand = record { starts = starts; reads-all = reads-all; steps-named = steps-named }

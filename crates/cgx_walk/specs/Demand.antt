@@ -6,6 +6,7 @@ use lib.ListN.{length}
 use Rattle.cgx_spec.specs.declared.Offset.the-variants.{Nowhere}
 use Rattle.cgx_spec.specs.declared.Place.{Place}
 use Rattle.cgx_spec.specs.Files.{header, viewsOf, verdictOf}
+use Rattle.cgx_spec.specs.Demands.{AnswerNamed}
 use Rattle.cgx_spec.specs.Walking.{firstPlace, Answer, refusedAt, ending, Reads, andThen}
 use Rattle.cgx_kinds.specs.Meant.{viewMeant}
 use Rattle.cgx_walk.specs.declared.Outcome.{Outcome}
@@ -27,3 +28,5 @@ pub record WalkDemand : Type 0 where
   pub starts : (bs : List ℕ) → startOf (header ++ bs) ≡ Ready firstPlace
   -- and whatever `step` answers for each place, as long as it is what it promises, the caller is given exactly the views of the file's known records, and then its verdict.
   pub reads-all : (bs : List ℕ) (next : Place → Outcome) → let f = header ++ bs in ((p : Place) → StepMade f p (next p)) → given (length f) f next (next firstPlace) ≡ record { views = viewsOf f; last = ending (verdictOf f) }
+  -- From every place, a made-up one too, what `step` answers is a record, done, or refused with a number of the table: 16 and no place, or 3 to 13 and a place.
+  pub steps-named : (f : List ℕ) (p : Place) (r : Outcome) → StepMade f p r → AnswerNamed (answerMeant f r)

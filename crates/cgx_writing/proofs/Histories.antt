@@ -9,13 +9,15 @@ use lib.Dec.{leb, leb→le}
 use lib.ListN.{length, take}
 use Rattle.cgx_spec.specs.declared.Kind.{Kind}
 use Rattle.cgx_spec.specs.declared.Place.{Place}
+use Rattle.cgx_spec.specs.declared.Verdict.{Verdict}
 use Rattle.cgx_spec.specs.Fields.{join}
 use Rattle.cgx_spec.specs.Order.{start}
-use Rattle.cgx_spec.specs.Records.{Rec, size, bytesOf, Meaning, meaningOf, normalOf, broken, contextAfter}
-use Rattle.cgx_spec.specs.Files.{header, Accepted, recordsOf, Known, known, ifKnown, sequence, meanings, normals, normalForm}
-use Rattle.cgx_spec.specs.Walking.{firstPlace, placeAfter, forged}
+use Rattle.cgx_spec.specs.Records.{Rec, size, bytesOf, Meaning, meaningOf, normalOf, broken, contextAfter, viewMeaning}
+use Rattle.cgx_spec.specs.Files.{header, Accepted, recordsOf, Known, known, ifKnown, sequence, meanings, normals, normalForm, viewsOf}
+use Rattle.cgx_spec.specs.Walking.{firstPlace, placeAfter, forged, done, ending, stepOf, Reads, reads}
 use Rattle.cgx_spec.specs.Written.{GoodFrom}
 use Rattle.cgx_spec.proofs.Lists.{true→T}
+use Rattle.cgx_spec.proofs.Steps.{reading-law}
 use Rattle.cgx_spec.proofs.Chain.{good-chain, file-complete}
 use Rattle.cgx_put.specs.Put.{put}
 use Rattle.cgx_put.proofs.Puts.{put-length}
@@ -111,12 +113,24 @@ module _ (buf : List ℕ) (l : 4 ≤ length buf) (h : History) (k : Kept firstPl
   unfolding normalForm fileOf
   own-form = ap (λ (ks : List Known). header ++ join bytesOf (normals ks)) sequence-is ∙ ap (λ (x : List Rec). header ++ join bytesOf x) (normals-all (h .taken) ∙ k .normal)
 
+  means-are : meanings (sequence (fileOf (h .taken))) ≡ map meant (h .taken)
+  means-are = ap meanings sequence-is ∙ meanings-all (h .taken) ∙ k .means
+
+  -- the walk gives the views of the file, and its verdict
+  walk-is : let f = fileOf (h .taken) in reads (length f) f (stepOf f firstPlace) ≡ record { views = viewsOf f; last = done }
+  unfolding fileOf Accepted ending
+  walk-is = reading-law .steps (join bytesOf (map written (h .taken))) ∙ ap (λ (v : Verdict). record { views = viewsOf (fileOf (h .taken)); last = ending v }) (file-read .0)
+
+  shown-are : let f = fileOf (h .taken) in let r = reads (length f) f (stepOf f firstPlace) in (map viewMeaning (r .views) ≡ map meant (h .taken)) × (r .last ≡ done)
+  shown-are = (ap (λ (r : Reads). map viewMeaning (r .views)) walk-is ∙ reading-law .views-mean (fileOf (h .taken)) ∙ means-are, ap (λ (r : Reads). r .last) walk-is)
+
   reads-back : ReadBack h
   reads-back =
       record {
         bytes = bytes-are;
         accepted = rw bytes-are (file-read .0);
-        means = rw bytes-are (ap meanings sequence-is ∙ meanings-all (h .taken) ∙ k .means);
+        means = rw bytes-are means-are;
+        shown = rw bytes-are shown-are;
         normal = rw bytes-are own-form;
       }
 

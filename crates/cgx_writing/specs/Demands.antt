@@ -14,9 +14,9 @@ use Rattle.cgx_spec.specs.declared.Context.{Context}
 use Rattle.cgx_spec.specs.Numbers.{Bytes}
 use Rattle.cgx_spec.specs.Fields.{inOrder}
 use Rattle.cgx_spec.specs.Kinds.{angle, magnif, array}
-use Rattle.cgx_spec.specs.Records.{size, broken, faultOf}
+use Rattle.cgx_spec.specs.Records.{size, broken, faultOf, viewMeaning}
 use Rattle.cgx_spec.specs.Files.{header, Accepted, sequence, meanings, normalForm}
-use Rattle.cgx_spec.specs.Walking.{firstPlace}
+use Rattle.cgx_spec.specs.Walking.{firstPlace, done, stepOf, reads}
 use Rattle.cgx_spec.specs.Specimens.{drawingNormal}
 use Rattle.cgx_kinds.specs.declared.Date.{Date}
 use Rattle.cgx_kinds.specs.declared.LayerNo.{LayerNo}
@@ -48,6 +48,8 @@ pub record ReadBack (h : History) : Type 0 where
   pub bytes : take (h .place .at) (h .buffer) ≡ fileOf (h .taken)
   pub accepted : Accepted (take (h .place .at) (h .buffer))
   pub means : meanings (sequence (take (h .place .at) (h .buffer))) ≡ map meant (h .taken)
+  -- What was given is what a walk over them shows, step after step from the start, and then it is done.
+  pub shown : let f = take (h .place .at) (h .buffer) in let r = reads (length f) f (stepOf f firstPlace) in (map viewMeaning (r .views) ≡ map meant (h .taken)) × (r .last ≡ done)
   pub normal : normalForm (take (h .place .at) (h .buffer)) ≡ take (h .place .at) (h .buffer)
 
 -- The records `before` one of them are taken, and that one does not fit: it is answered 14, and nothing changes.
