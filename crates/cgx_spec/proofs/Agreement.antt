@@ -197,10 +197,10 @@ run-longer [] b = refl
 run-longer (c ∷ bs) b = ap (λ (n : ℕ). Of (farthest c bs) n) (add-one (suc (length bs)))
 
 -- what follows from a record is what looking back at it says
-abbrev onto : Option Kind → ℕ → List Behind → List Behind
+abbrev pub onto : Option Kind → ℕ → List Behind → List Behind
 onto o at bs = elim o [ none ↦ bs | some k ↦ record { kind = k; at = at } ∷ bs ]
 
-next-looks : (o : Option Kind) (at : ℕ) (bs : List Behind) → next (lookBack bs) at o ≡ lookBack (onto o at bs)
+pub next-looks : (o : Option Kind) (at : ℕ) (bs : List Behind) → next (lookBack bs) at o ≡ lookBack (onto o at bs)
 unfolding next lookBack typeByte libraryBehind cellBehind layerBehind structBehind propertiesBehind endBehind runBehind
 next-looks none at bs = refl
 next-looks (some Library) at bs = refl
@@ -227,7 +227,7 @@ walk-looks (suc k) rest c at (go p more) s bs e =
     let to = p .at + size (p .rec) in
     (q, walk-looks k more n to (step n to more) (step-at n to more) (onto o (p .at) bs) (ap (λ (u : Context). next u (p .at) o) q ∙ next-looks o (p .at) bs))
 
-start-looks : start ≡ lookBack []
+pub start-looks : start ≡ lookBack []
 unfolding start lookBack libraryBehind cellBehind layerBehind structBehind propertiesBehind endBehind runBehind
 start-looks = refl
 

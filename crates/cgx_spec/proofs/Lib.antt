@@ -14,6 +14,12 @@ pub mod Loop
 pub mod Sizes
 pub mod Cuts
 pub mod Agreement
+pub mod Firsts
+pub mod Needs
+pub mod Located
+pub mod Outcomes
+pub mod Truth
+pub mod Only
 pub mod Specimens
 pub mod RealAnswers
 pub mod Promises

@@ -4,12 +4,12 @@ use Rattle.cgx_spec.specs.Numbers.{twos, shortOf, longOf, longsOf}
 use Rattle.cgx_spec.specs.Reals.{negative, exponent, mantissa, pack, value as wordValue, positive, lower, minus, normal as wordNormal, realOf, positiveReal, normalReal}
 use Rattle.cgx_spec.specs.Dates.{calendar, goodDate}
 use Rattle.cgx_spec.specs.Strings.{textOf, padded, same, goodString}
-use Rattle.cgx_spec.specs.Fields.{fits, width, ruleOf, inOrder, passes, good, normal, pieces, lengthsFit, keeps, normalBytes}
+use Rattle.cgx_spec.specs.Fields.{All, fits, width, ruleOf, inOrder, passes, good, normal, pieces, lengthsFit, keeps, normalBytes}
 use Rattle.cgx_spec.specs.Kinds.{kindOf, flagsFor, allows, meant, goodFlags, flagsOf, layout}
 use Rattle.cgx_spec.specs.Order.{start, needsOf, allowed, next}
 use Rattle.cgx_spec.specs.Records.{bytesOf, piecesOf, normalOf, broken, rules, contextAfter}
 use Rattle.cgx_spec.specs.Files.{cutBody, cut, settle, judge, finish, step, walk, opening, begin, walkOf, verdictOf, recordsOf, known, sequence, normalForm}
-use Rattle.cgx_spec.specs.Specimens.{Holds, All, specimens, Drawing}
+use Rattle.cgx_spec.specs.Specimens.{Holds, specimens, Drawing}
 
 infixr 20 _also_
 _also_ : {A B : Type 0} → A → B → A × B

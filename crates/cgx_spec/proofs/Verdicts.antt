@@ -19,7 +19,7 @@ use Rattle.cgx_spec.specs.Order.{start, allowed}
 use Rattle.cgx_spec.specs.Records.{Rec, size, Rule, broken, rules, faultOf, contextAfter, viewOf}
 use Rattle.cgx_spec.specs.Files.{Cut, bad, found, cutBody, cut, Step, stop, go, settle, judge, finish, step, walk, opening, opened, begin, walkOf, verdictOf}
 use Rattle.cgx_spec.specs.Walking.{placeAfter, forged, seen, refusedAt, ending, answer, stepOf}
-use Rattle.cgx_spec.specs.Demands.{NamedFrom, AnswerNamed, Verdicts}
+use Rattle.cgx_spec.specs.Demands.{NamedFrom, AnswerNamed}
 
 -- ---- a record
 
@@ -102,7 +102,7 @@ walk-named zero bs (go p rest) h l = absurd (omega arith)
 walk-named (suc k) bs (go p rest) h l =
     walk-named k rest (step (contextAfter p) (p .at + size (p .rec)) rest) (step-named (contextAfter p) (p .at + size (p .rec)) rest) (omega arith)
 
-begin-named : (f : List ℕ) → NamedFrom 1 (verdictOf f)
+pub begin-named : (f : List ℕ) → NamedFrom 1 (verdictOf f)
 unfolding verdictOf walkOf begin opening walk
 begin-named [] = omega arith
 begin-named (a ∷ []) = omega arith
@@ -137,13 +137,10 @@ answer-named (suc k) bs (go p rest) h l =
     one none ih = ih
     one (some kd) ih = tt
 
-steps-named : (f : List ℕ) (p : Place) → AnswerNamed (stepOf f p)
+pub steps-named : (f : List ℕ) (p : Place) → AnswerNamed (stepOf f p)
 unfolding stepOf
 steps-named f p = go (forged (length f) p)
   where
     go : (z : Bool) → AnswerNamed (cond z (refusedAt 16 Nowhere) (answer (length f) (step (p .context) (p .at) (drop (p .at) f))))
     go true = refl
     go false = answer-named (length f) (drop (p .at) f) (step (p .context) (p .at) (drop (p .at) f)) (step-named (p .context) (p .at) (drop (p .at) f)) (omega (arith, length-drop (p .at) f))
-
-pub verdicts : Verdicts
-verdicts = record { named = begin-named; steps-named = steps-named }

@@ -20,7 +20,7 @@ use Rattle.cgx_spec.specs.declared.Real.the-variants.{Exact, Inexact}
 use Rattle.cgx_spec.specs.Numbers.{Bytes, shortOf, longOf, longsOf, InRange, shortBytes, longBytes}
 use Rattle.cgx_spec.specs.Reals.{negative, exponent, mantissa, value, normal, IsNormal, answer, Means, answerValue}
 use Rattle.cgx_spec.specs.Strings.{textOf, goodString}
-use Rattle.cgx_spec.specs.Fields.{join, lengthsFit}
+use Rattle.cgx_spec.specs.Fields.{All, join, lengthsFit}
 use Rattle.cgx_spec.specs.Kinds.{kindOf, goodFlags, flagsOf}
 use Rattle.cgx_spec.specs.Order.{start}
 use Rattle.cgx_spec.specs.Records.{Rec, size, bytesOf, piecesOf, Placed, viewMeaning}
@@ -28,7 +28,8 @@ use Rattle.cgx_spec.specs.Files.{header, walkOf, verdictOf, Accepted, re
 use Rattle.cgx_spec.specs.Walking.{firstPlace, Answer, seen, done, refusedAt, ending, stepOf, reads}
 use Rattle.cgx_spec.specs.Written.{GoodFrom, placeAll, AddedTo}
 use Rattle.cgx_spec.specs.Restated.{typeByte, goodSize, highestFlags, FlagsAlike, IsString, Behind, lookBack}
-use Rattle.cgx_spec.specs.Specimens.{Holds, All, specimens, Drawing}
+use Rattle.cgx_spec.specs.Checks.{True}
+use Rattle.cgx_spec.specs.Specimens.{Holds, specimens, Drawing}
 
 -- ---- demand 1: every file gets an answer
 
@@ -47,8 +48,12 @@ AnswerNamed (refusedAt n (At p)) = (3 ≤ n) × (n ≤ 13)
 pub record Verdicts : Type 0 where
   -- Every file is accepted, or refused with a number from 1 to 13.
   pub named : (f : List ℕ) → NamedFrom 1 (verdictOf f)
-  -- A step from any place, a made-up one too, gives a record, is done, or is refused so: "16, forged place", or a number of a record or of the end.
+  -- A step from any place, a made-up one too, gives a record, is done, or is refused: with 16 and no place, or with 3 to 13 and a place.
   pub steps-named : (f : List ℕ) (p : Place) → AnswerNamed (stepOf f p)
+  -- "Each is given exactly then": the verdict is true by 01's checks stated one by one (`Checks`),
+  pub truth : (f : List ℕ) → Bytes f → True f (verdictOf f)
+  -- and no other verdict is.
+  pub only : (f : List ℕ) → Bytes f → (v : Verdict) → True f v → v ≡ verdictOf f
 
 -- ---- demand 2: what is read, and read back
 

@@ -159,6 +159,10 @@ module _ {A : Type 0} where
   every p [] = true
   every p (x ∷ xs) = p x && every p xs
 
+  abbrev pub All : (A → Type 0) → List A → Type 0
+  All P [] = Unit {0}
+  All P (x ∷ xs) = P x × All P xs
+
   abbrev pub join : (A → List ℕ) → List A → List ℕ
   join f [] = []
   join f (x ∷ xs) = f x ++ join f xs

@@ -1,4 +1,4 @@
--- What CGX is, by 01-scope.md, in its order: numbers, fields, the eleven kinds, sequence and context, records, files, walking. `Demands` says what is
+-- What CGX is, by 01-scope.md, in its order: numbers, fields, the eleven kinds, sequence and context, records, files, walking; then stated a second time. `Demands` says what is
 -- proved of these definitions; start there.
 pub mod Demands
 pub mod Numbers
@@ -13,4 +13,5 @@ pub mod Files
 pub mod Walking
 pub mod Written
 pub mod Restated
+pub mod Checks
 pub mod Specimens

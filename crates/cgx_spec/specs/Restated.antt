@@ -2,9 +2,11 @@
 use mathlib.Core.Path.{_≡_}
 use mathlib.Core.Bool.{Bool, true, false, _&&_, _||_, cond}
 use mathlib.Core.List.{List, [], _∷_, _++_}
-use Prim.Native.Nat.{ℕ, zero, _+_, _*_, _/_, _%_, _-_, _^_, _<_}
+use Prim.Native.Nat.{ℕ, zero, _+_, _*_, _/_, _%_, _-_, _^_, _≤_, _<_}
 use lib.Dec.{leb, eqb}
+use lib.IntN.{ℤ}
 use lib.ListN.{length, getD}
+use lib.Signed.{_≤ℤ_}
 use Rattle.cgx_spec.specs.declared.Kind.{Kind}
 use Rattle.cgx_spec.specs.declared.Kind.the-variants.{Library, Struct, Cprpty, Property, Layer, Box, Poly, Wire, Text, Sref, Endlib}
 use Rattle.cgx_spec.specs.declared.Offset.{Offset}
@@ -29,6 +31,26 @@ typeByte Text = 8
 typeByte Sref = 9
 typeByte Endlib = 10
 
+-- An SREF's optional fields by its flags: "angle if flag 1; magnif if 2; cols, rows and two points if 8".
+abbrev pub hasAngle : ℕ → Bool
+hasAngle fl = eqb (fl % 2) 1
+
+abbrev pub hasMagnif : ℕ → Bool
+hasMagnif fl = eqb (fl / 2 % 2) 1
+
+abbrev pub hasArray : ℕ → Bool
+hasArray fl = eqb (fl / 8 % 2) 1
+
+-- Where they begin: after size, type, flags, x and y, and 8 bytes for an angle, 8 for a magnif, 24 for an array.
+abbrev pub magnifAt : Bool → ℕ
+magnifAt angle = 4 + 8 + cond angle 8 0
+
+abbrev pub arrayAt : Bool → Bool → ℕ
+arrayAt angle magnif = magnifAt angle + cond magnif 8 0
+
+abbrev pub nameAt : Bool → Bool → Bool → ℕ
+nameAt angle magnif array = arrayAt angle magnif + cond array 24 0
+
 -- From lo to hi things of u bytes each, behind `base` bytes.
 abbrev pub repeated : ℕ → ℕ → ℕ → ℕ → ℕ → Bool
 repeated base u lo hi n = leb (base + u * lo) n && leb n (base + u * hi) && eqb ((n - base) % u) 0
@@ -47,9 +69,8 @@ goodSize Poly fl n = repeated 4 8 4 8191 n
 -- "1 to 8,190 pairs", behind the width
 goodSize Wire fl n = repeated 8 8 1 8190 n
 goodSize Text fl n = leb 18 n
--- "string ≥ 2 bytes", behind x and y, and 8 bytes for an angle (flag 1), 8 for a magnif (2), 24 for an array (8)
-goodSize Sref fl n =
-    leb (4 + 8 + cond (eqb (fl % 2) 1) 8 0 + cond (eqb (fl / 2 % 2) 1) 8 0 + cond (eqb (fl / 8 % 2) 1) 24 0 + 2) n
+-- "string ≥ 2 bytes"
+goodSize Sref fl n = leb (nameAt (hasAngle fl) (hasMagnif fl) (hasArray fl) + 2) n
 -- "size 4"
 goodSize Endlib fl n = eqb n 4
 
@@ -66,6 +87,98 @@ highestFlags Wire = 2
 highestFlags Text = 255
 highestFlags Sref = 15
 highestFlags Endlib = 255
+
+-- ---- the table's columns: where the fields with a rule are, counted from the record's first byte
+
+-- "two dates", of eight bytes each
+unfoldable pub datesAt : Kind → List ℕ
+-- after munit and uunit
+datesAt Library = 20 ∷ 28 ∷ []
+datesAt Struct = 4 ∷ 12 ∷ []
+datesAt Cprpty = []
+datesAt Property = []
+datesAt Layer = []
+datesAt Box = []
+datesAt Poly = []
+datesAt Wire = []
+datesAt Text = []
+datesAt Sref = []
+datesAt Endlib = []
+
+-- "both reals > 0", "magnif > 0": reals of eight bytes each, by kind and flags
+unfoldable pub scalesAt : Kind → ℕ → List ℕ
+scalesAt Library fl = 4 ∷ 12 ∷ []
+scalesAt Struct fl = []
+scalesAt Cprpty fl = []
+scalesAt Property fl = []
+scalesAt Layer fl = []
+scalesAt Box fl = []
+scalesAt Poly fl = []
+scalesAt Wire fl = []
+scalesAt Text fl = []
+scalesAt Sref fl = cond (hasMagnif fl) (magnifAt (hasAngle fl) ∷ []) []
+scalesAt Endlib fl = []
+
+-- "cols, rows ≥ 1": longs, by kind and flags
+unfoldable pub countsAt : Kind → ℕ → List ℕ
+countsAt Library fl = []
+countsAt Struct fl = []
+countsAt Cprpty fl = []
+countsAt Property fl = []
+countsAt Layer fl = []
+countsAt Box fl = []
+countsAt Poly fl = []
+countsAt Wire fl = []
+countsAt Text fl = []
+countsAt Sref fl =
+    let cols = arrayAt (hasAngle fl) (hasMagnif fl) in
+    cond (hasArray fl) (cols ∷ (cols + 4) ∷ []) []
+countsAt Endlib fl = []
+
+-- "left, bottom, right, top, repeated", up to the end of the record
+unfoldable pub boxesAt : Kind → List ℕ
+boxesAt Library = []
+boxesAt Struct = []
+boxesAt Cprpty = []
+boxesAt Property = []
+boxesAt Layer = []
+boxesAt Box = 4 ∷ []
+boxesAt Poly = []
+boxesAt Wire = []
+boxesAt Text = []
+boxesAt Sref = []
+boxesAt Endlib = []
+
+-- names, property texts and labels, up to the end of the record, by kind, flags and size
+unfoldable pub stringsAt : Kind → ℕ → ℕ → List ℕ
+-- after two reals and two dates
+stringsAt Library fl n = 36 ∷ []
+stringsAt Struct fl n = 20 ∷ []
+stringsAt Cprpty fl n = 8 ∷ []
+stringsAt Property fl n = 8 ∷ []
+-- "name or nothing"
+stringsAt Layer fl n = cond (leb n 8) [] (8 ∷ [])
+stringsAt Box fl n = []
+stringsAt Poly fl n = []
+stringsAt Wire fl n = []
+-- after x, y and width
+stringsAt Text fl n = 16 ∷ []
+stringsAt Sref fl n = nameAt (hasAngle fl) (hasMagnif fl) (hasArray fl) ∷ []
+stringsAt Endlib fl n = []
+
+-- "x, y pairs" of which "first = last", up to the end of the record
+unfoldable pub polygonsAt : Kind → List ℕ
+polygonsAt Library = []
+polygonsAt Struct = []
+polygonsAt Cprpty = []
+polygonsAt Property = []
+polygonsAt Layer = []
+polygonsAt Box = []
+polygonsAt Poly = 4 ∷ []
+polygonsAt Wire = []
+polygonsAt Text = []
+polygonsAt Sref = []
+polygonsAt Endlib = []
 
 -- ---- what flags mean
 
@@ -130,6 +243,25 @@ zerosAfter t = cond (eqb (length t % 2) 1) (0 ∷ []) (0 ∷ 0 ∷ [])
 pub record IsString (b t : List ℕ) : Type 0 where
   pub no-zero : NoZero t
   pub is : b ≡ t ++ zerosAfter t
+
+-- ---- dates and boxes
+
+-- "month 1 to 12, day 1 to 31, hour 0 to 23, minute 0 to 59, second 0 to 59, and a zero byte."
+pub record IsDate (b : List ℕ) : Type 0 where
+  pub month : (1 ≤ getD b 2 0) × (getD b 2 0 ≤ 12)
+  pub day : (1 ≤ getD b 3 0) × (getD b 3 0 ≤ 31)
+  pub hour : getD b 4 0 ≤ 23
+  pub minute : getD b 5 0 ≤ 59
+  pub second : getD b 6 0 ≤ 59
+  pub last : getD b 7 0 ≡ 0
+
+-- "left ≤ right, bottom ≤ top", of each box: left, bottom, right, top.
+abbrev pub Boxes : List ℤ → Type 0
+Boxes [] = Unit {0}
+Boxes (l ∷ []) = Unit {0}
+Boxes (l ∷ b ∷ []) = Unit {0}
+Boxes (l ∷ b ∷ r ∷ []) = Unit {0}
+Boxes (l ∷ b ∷ r ∷ t ∷ more) = (l ≤ℤ r) × (b ≤ℤ t) × Boxes more
 
 -- ---- the context, by looking back at the known records already read, nearest first
 

@@ -34,10 +34,6 @@ Holds (noString b) = goodString b ≡ false
 Holds (long b z) = longOf b ≡ z
 Holds (real b n v) = (normalReal b ≡ n) × (realOf b ≡ v) × (realOf n ≡ v)
 
-abbrev pub All : (Specimen → Type 0) → List Specimen → Type 0
-All P [] = Unit {0}
-All P (s ∷ ss) = P s × All P ss
-
 -- The value of the real 1: 2^312, as whole numbers.
 abbrev pub one : ℤ
 one = pos (16 ^ 64 * 2 ^ 56)

@@ -7,7 +7,7 @@ use Rattle.cgx_spec.specs.declared.Place.{Place}
 use Rattle.cgx_spec.specs.Files.{header, viewsOf, verdictOf, opening}
 use Rattle.cgx_spec.specs.Demands.{AnswerNamed}
 use Rattle.cgx_spec.specs.Walking.{firstPlace, ending, stepOf, Reads, andThen, reads}
-use Rattle.cgx_spec.proofs.Verdicts.{verdicts}
+use Rattle.cgx_spec.proofs.Verdicts as verdicts
 use Rattle.cgx_spec.proofs.Steps.{reading-law}
 use Rattle.cgx_kinds.specs.Meant.{viewMeant}
 use Rattle.cgx_walk.specs.declared.Outcome.{Outcome}
@@ -36,7 +36,7 @@ reads-all bs next h =
     given-is f next h (length f) (next firstPlace) ∙ ap (reads (length f) f) (h firstPlace .means) ∙ reading-law .steps bs
 
 steps-named : (f : List ℕ) (p : Place) (r : Outcome) → StepMade f p r → AnswerNamed (answerMeant f r)
-steps-named f p r h = subst AnswerNamed (sym (h .means)) (verdicts .steps-named f p)
+steps-named f p r h = subst AnswerNamed (sym (h .means)) (verdicts.steps-named f p)
 
 pub walk-demand : WalkDemand
 walk-demand = record { starts = starts; reads-all = reads-all; steps-named = steps-named }
