@@ -1,25 +1,25 @@
 -- The rules 9 to 12 of a record: by the fields of its layout, and by 01's words at the offsets that 01 gives for its kind. Assumes nothing.
-use mathlib.Core.Path.{_≡_, refl, sym, ap, ap₂, _∙_, subst}
-use mathlib.Core.Logic.{_↔_, Iff·trans}
+use mathlib.Core.Path.{_≡_, refl, sym, ap, _∙_, subst}
+use mathlib.Core.Logic.{_↔_}
 use mathlib.Core.Bool.{Bool, true, false, _&&_, cond}
 use mathlib.Core.List.{List, [], _∷_}
-use Prim.Native.Nat.{ℕ, suc, _+_, _*_, _-_, _%_, _≤_, _<_}
+use Prim.Native.Nat.{ℕ, suc, _+_, _*_, _-_, _%_, _≤_}
 use native.Mathlib.Omega.{arith}
 use borrow.Author.Tests.{leb-true, le-leb, lt-leb, eqb-true, eq-eqb}
-use lib.Dec.{T, leb, eqb}
+use lib.Dec.{leb, eqb}
 use lib.IntN.{ℤ, pos}
 use lib.ListN.{length, take, drop, getD, length-drop}
 use lib.Seq.{length-take-le, take-all}
-use lib.Signed.{leZ, ltZ, _≤ℤ_, _<ℤ_}
+use lib.Signed.{leZ, _≤ℤ_, _<ℤ_}
 use Rattle.cgx_spec.specs.declared.Kind.{Kind}
 use Rattle.cgx_spec.specs.declared.Kind.the-variants.{Library, Struct, Cprpty, Property, Layer, Box, Poly, Wire, Text, Sref, Endlib}
 use Rattle.cgx_spec.specs.Numbers.{longOf, longsOf}
 use Rattle.cgx_spec.specs.Reals.{positive as above0, realOf, positiveReal}
 use Rattle.cgx_spec.specs.Dates.{within, calendar, goodDate}
 use Rattle.cgx_spec.specs.Strings.{textOf, same, goodString}
-use Rattle.cgx_spec.specs.Fields.{Field, real, positive, string, optional, width, ruleOf, ones, inOrder, passes, good, pieces, every, All, keeps}
-use Rattle.cgx_spec.specs.Kinds.{angle, magnif, array, onlyIf, long, count, point, layout}
-use Rattle.cgx_spec.specs.Restated.{magnifAt, arrayAt, nameAt, hasAngle, hasMagnif, hasArray, repeated, goodSize, datesAt, scalesAt, countsAt, boxesAt, stringsAt, polygonsAt, IsString, IsDate, Boxes}
+use Rattle.cgx_spec.specs.Fields.{Field, optional, width, ruleOf, ones, inOrder, passes, good, pieces, every, All, keeps}
+use Rattle.cgx_spec.specs.Kinds.{angle, magnif, array, layout}
+use Rattle.cgx_spec.specs.Restated.{magnifAt, arrayAt, nameAt, hasAngle, hasMagnif, hasArray, goodSize, datesAt, scalesAt, countsAt, boxesAt, stringsAt, polygonsAt, IsString, IsDate, Boxes}
 use Rattle.cgx_spec.specs.Checks.{part, DatesGood, NumbersGood, HoldsText, StringsGood, PolygonsGood}
 use Rattle.cgx_spec.proofs.Lists.{T→true, true→T, and-true, same→eq, same-refl}
 use Rattle.cgx_spec.proofs.Cuts.{cutAt, cut-is, whole, ending}
@@ -120,9 +120,28 @@ count-is (a ∷ b ∷ c ∷ d ∷ x ∷ l) e = absurd (omega arith)
 
 -- ---- an SREF by its flags
 
-abbrev sref : Bool → Bool → Bool → List Field
-sref x y z =
-    long ∷ long ∷ onlyIf x real ∷ onlyIf y positive ∷ onlyIf z count ∷ onlyIf z count ∷ onlyIf z point ∷ onlyIf z point ∷ string ∷ []
+-- flags of which the bits for an angle, a magnif and an array are these
+abbrev flagged : Bool → Bool → Bool → ℕ
+flagged x y z = cond x 1 0 + cond y 2 0 + cond z 8 0
+
+-- what holds of the fields and offsets with each of these flags holds with any
+module _ (P : List Field → List ℕ → List ℕ → List ℕ → Type 0) where
+  abbrev Of : ℕ → Type 0
+  Of fl = P (layout Sref fl) (scalesAt Sref fl) (countsAt Sref fl) (stringsAt Sref fl 0)
+
+  by-flags : ((x y z : Bool) → Of (flagged x y z)) → (fl : ℕ) → Of fl
+  unfolding layout scalesAt countsAt stringsAt
+  by-flags h fl = go (angle fl) refl (magnif fl) refl (array fl) refl
+    where
+      go : (x : Bool) → angle fl ≡ x → (y : Bool) → magnif fl ≡ y → (z : Bool) → array fl ≡ z → Of fl
+      go true ex true ey true ez = rw (ex, ey, ez) (h true true true)
+      go true ex true ey false ez = rw (ex, ey, ez) (h true true false)
+      go true ex false ey true ez = rw (ex, ey, ez) (h true false true)
+      go true ex false ey false ez = rw (ex, ey, ez) (h true false false)
+      go false ex true ey true ez = rw (ex, ey, ez) (h false true true)
+      go false ex true ey false ez = rw (ex, ey, ez) (h false true false)
+      go false ex false ey true ez = rw (ex, ey, ez) (h false false true)
+      go false ex false ey false ez = rw (ex, ey, ez) (h false false false)
 
 -- ---- the fields by their offsets
 
@@ -139,16 +158,16 @@ module _ (a s t fl : ℕ) (body : List ℕ) where
   abbrev dates : Kind → Bool
   dates k = every (λ at. goodDate (part at 8 rec)) (datesAt k)
 
-  no-dates : (x y z : Bool) → kept 9 (sref x y z) ≡ true
-  unfolding keeps ruleOf good width
-  no-dates true true true = refl
-  no-dates true true false = refl
-  no-dates true false true = refl
-  no-dates true false false = refl
-  no-dates false true true = refl
-  no-dates false true false = refl
-  no-dates false false true = refl
-  no-dates false false false = refl
+  sref-dates : (x y z : Bool) → kept 9 (layout Sref (flagged x y z)) ≡ true
+  unfolding keeps ruleOf good width layout
+  sref-dates true true true = refl
+  sref-dates true true false = refl
+  sref-dates true false true = refl
+  sref-dates true false false = refl
+  sref-dates false true true = refl
+  sref-dates false true false = refl
+  sref-dates false false true = refl
+  sref-dates false false false = refl
 
   dates-same : (k : Kind) → kept 9 (layout k fl) ≡ dates k
   unfolding keeps ruleOf good width layout datesAt
@@ -161,7 +180,7 @@ module _ (a s t fl : ℕ) (body : List ℕ) where
   dates-same Poly = refl
   dates-same Wire = refl
   dates-same Text = refl
-  dates-same Sref = no-dates (angle fl) (magnif fl) (array fl)
+  dates-same Sref = by-flags (λ fs ss cs ns. kept 9 fs ≡ true) sref-dates fl
   dates-same Endlib = refl
 
   -- rule 10
@@ -183,8 +202,8 @@ module _ (a s t fl : ℕ) (body : List ℕ) where
   both-kinds true q = sym (and-true q)
   both-kinds false q = refl
 
-  sref-numbers : (x y z : Bool) → kept 10 (sref x y z) ≡ numbers (cond y (magnifAt x ∷ []) []) (cond z (arrayAt x y ∷ (arrayAt x y + 4) ∷ []) []) []
-  unfolding keeps ruleOf good passes width numbers
+  sref-numbers : (x y z : Bool) → let g = flagged x y z in kept 10 (layout Sref g) ≡ numbers (scalesAt Sref g) (countsAt Sref g) []
+  unfolding keeps ruleOf good passes width layout scalesAt countsAt numbers
   sref-numbers true true true = both-kinds (scale 20) (every counted (28 ∷ 32 ∷ []))
   sref-numbers true true false = sym (and-true _)
   sref-numbers true false true = sym (and-true _)
@@ -205,7 +224,7 @@ module _ (a s t fl : ℕ) (body : List ℕ) where
   numbers-same Poly = refl
   numbers-same Wire = refl
   numbers-same Text = refl
-  numbers-same Sref = sref-numbers (angle fl) (magnif fl) (array fl)
+  numbers-same Sref = by-flags (λ fs ss cs ns. kept 10 fs ≡ numbers ss cs []) sref-numbers fl
   numbers-same Endlib = refl
 
   -- rule 11
@@ -216,8 +235,8 @@ module _ (a s t fl : ℕ) (body : List ℕ) where
   ends : (at : ℕ) → (goodString (take (length body - at) (drop at body)) && true) ≡ (goodString (drop at body) && true)
   ends at = ap (λ (l : List ℕ). goodString l && true) (sym (ending body at))
 
-  sref-strings : (x y z : Bool) → kept 11 (sref x y z) ≡ strings (nameAt x y z ∷ [])
-  unfolding keeps ruleOf good width
+  sref-strings : (x y z : Bool) → let g = flagged x y z in kept 11 (layout Sref g) ≡ strings (stringsAt Sref g 0)
+  unfolding keeps ruleOf good width layout stringsAt
   sref-strings true true true = ends 48
   sref-strings true true false = ends 24
   sref-strings true false true = ends 40
@@ -246,7 +265,7 @@ module _ (a s t fl : ℕ) (body : List ℕ) where
   strings-same Poly n e = refl
   strings-same Wire n e = refl
   strings-same Text n e = ends 12
-  strings-same Sref n e = sref-strings (angle fl) (magnif fl) (array fl)
+  strings-same Sref n e = by-flags (λ fs ss cs ns. kept 11 fs ≡ strings ns) sref-strings fl
   strings-same Endlib n e = refl
 
   -- rule 12
@@ -254,16 +273,16 @@ module _ (a s t fl : ℕ) (body : List ℕ) where
   abbrev polygons : ℕ → List ℕ → Bool
   polygons n l = every (λ at. same (part at 8 rec) (part (n - 8) 8 rec)) l
 
-  no-polygons : (x y z : Bool) → kept 12 (sref x y z) ≡ true
-  unfolding keeps ruleOf good width
-  no-polygons true true true = refl
-  no-polygons true true false = refl
-  no-polygons true false true = refl
-  no-polygons true false false = refl
-  no-polygons false true true = refl
-  no-polygons false true false = refl
-  no-polygons false false true = refl
-  no-polygons false false false = refl
+  sref-polygons : (x y z : Bool) → kept 12 (layout Sref (flagged x y z)) ≡ true
+  unfolding keeps ruleOf good width layout
+  sref-polygons true true true = refl
+  sref-polygons true true false = refl
+  sref-polygons true false true = refl
+  sref-polygons true false false = refl
+  sref-polygons false true true = refl
+  sref-polygons false true false = refl
+  sref-polygons false false true = refl
+  sref-polygons false false false = refl
 
   last-eight : (n : ℕ) → 4 + length body ≡ n → 12 ≤ n → drop (length body - 8) body ≡ part (n - 8) 8 rec
   last-eight n e h =
@@ -285,7 +304,7 @@ module _ (a s t fl : ℕ) (body : List ℕ) where
       ∙ ap (λ (l : List ℕ). same (take 8 body) l && true) (last-eight n e (omega arith))
   polygons-same Wire n e g = refl
   polygons-same Text n e g = refl
-  polygons-same Sref n e g = no-polygons (angle fl) (magnif fl) (array fl)
+  polygons-same Sref n e g = by-flags (λ fs ss cs ns. kept 12 fs ≡ true) sref-polygons fl
   polygons-same Endlib n e g = refl
 
   -- ---- the rules

@@ -7,14 +7,14 @@ use mathlib.Core.Option.{Option, none, some}
 use Prim.Native.Nat.{ℕ, suc, _+_, _*_, _-_, _%_, _≤_, _<_}
 use native.Mathlib.Omega.{arith}
 use borrow.Author.Tests.{leb-true, le-leb}
-use lib.ListN.{length, take, drop}
+use lib.ListN.{length, take}
 use Rattle.cgx_spec.specs.declared.Kind.{Kind}
 use Rattle.cgx_spec.specs.Fields.{Piece, All, lengthsFit, keeps}
 use Rattle.cgx_spec.specs.Kinds.{kindOf, goodFlags}
 use Rattle.cgx_spec.specs.Order.{allowed}
 use Rattle.cgx_spec.specs.Records.{Rec, size, piecesOf, Rule, rule, broken, rules, faultOf}
 use Rattle.cgx_spec.specs.Restated.{typeByte, goodSize, highestFlags, Behind, lookBack}
-use Rattle.cgx_spec.specs.Checks.{FirstFails, sizeIn, recordIn, DatesGood, NumbersGood, StringsGood, PolygonsGood, Check, in-order, flags-good, body-length, dates-good, numbers-good, strings-good, poly-closed, numberOf, OfKind, Passes, ruleChecks}
+use Rattle.cgx_spec.specs.Checks.{FirstFails, recordIn, DatesGood, NumbersGood, StringsGood, PolygonsGood, Check, in-order, flags-good, body-length, dates-good, numbers-good, strings-good, poly-closed, numberOf, OfKind, Passes, ruleChecks}
 use Rattle.cgx_spec.proofs.Demand3.{unknown-kind}
 use Rattle.cgx_spec.proofs.Agreement.{agreement}
 use Rattle.cgx_spec.proofs.Firsts.{clash, iff-by, first-here, first-later}

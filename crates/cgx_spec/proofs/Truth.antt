@@ -17,11 +17,11 @@ use Rattle.cgx_spec.specs.declared.Verdict.the-variants.{Accepted as acc
 use Rattle.cgx_spec.specs.Numbers.{Bytes}
 use Rattle.cgx_spec.specs.Fields.{All}
 use Rattle.cgx_spec.specs.Kinds.{kindOf}
-use Rattle.cgx_spec.specs.Order.{start, next}
+use Rattle.cgx_spec.specs.Order.{next}
 use Rattle.cgx_spec.specs.Records.{Rec, size, Placed, faultOf, contextAfter}
 use Rattle.cgx_spec.specs.Files.{bad, found, cut, cutBody, Step, stop, go, settle, judge, finish, step, walk, opening, opened, begin, walkOf, verdictOf}
 use Rattle.cgx_spec.specs.Restated.{typeByte, Behind, endBehind, lookBack}
-use Rattle.cgx_spec.specs.Checks.{FirstFails, sizeIn, typeIn, Check, cgx-first, level-zero, some-left, whole-header, size-good, size-inside, none-left, numberOf, Passes, fileChecks, ruleChecks, recordChecks, checksAt, GoodAt, GoodUpTo, begun, known-next, unknown-next, AllGood, NotBegun, Stopped, True}
+use Rattle.cgx_spec.specs.Checks.{FirstFails, sizeIn, typeIn, Check, cgx-first, level-zero, some-left, whole-header, size-good, size-inside, none-left, numberOf, Passes, fileChecks, ruleChecks, recordChecks, checksAt, GoodAt, GoodUpTo, begun, known-next, unknown-next, Stopped, True}
 use Rattle.cgx_spec.proofs.Lists.{true→T, and-left, and-right, or-left-false, or-right-false, Bytes-drop}
 use Rattle.cgx_spec.proofs.Steps.{StepAt, step-at}
 use Rattle.cgx_spec.proofs.Agreement.{agreement, onto, next-looks, start-looks}
