@@ -3,10 +3,10 @@ use mathlib.Core.Path.{_≡_, refl, sym, ap, _∙_, subst}
 use mathlib.Core.Logic.{_↔_}
 use mathlib.Core.Bool.{Bool, true, false, _&&_, cond}
 use mathlib.Core.List.{List, [], _∷_}
-use Prim.Native.Nat.{ℕ, suc, _+_, _*_, _-_, _%_, _≤_}
+use Prim.Native.Nat.{ℕ, suc, _+_, _*_, _-_, _≤_}
 use native.Mathlib.Omega.{arith}
 use borrow.Author.Tests.{leb-true, le-leb, lt-leb, eqb-true, eq-eqb}
-use lib.Dec.{leb, eqb}
+use lib.Dec.{leb}
 use lib.IntN.{ℤ, pos}
 use lib.ListN.{length, take, drop, getD, length-drop}
 use lib.Seq.{length-take-le, take-all}
@@ -18,10 +18,11 @@ use Rattle.cgx_spec.specs.Reals.{positive as above0, realOf, positiveRea
 use Rattle.cgx_spec.specs.Dates.{within, calendar, goodDate}
 use Rattle.cgx_spec.specs.Strings.{textOf, same, goodString}
 use Rattle.cgx_spec.specs.Fields.{Field, optional, width, ruleOf, ones, inOrder, passes, good, pieces, every, All, keeps}
-use Rattle.cgx_spec.specs.Kinds.{angle, magnif, array, layout}
-use Rattle.cgx_spec.specs.Restated.{magnifAt, arrayAt, nameAt, hasAngle, hasMagnif, hasArray, goodSize, datesAt, scalesAt, countsAt, boxesAt, stringsAt, polygonsAt, IsString, IsDate, Boxes}
+use Rattle.cgx_spec.specs.Kinds.{layout}
+use Rattle.cgx_spec.specs.Restated.{hasArray, colsAt, nameAt, goodSize, datesAt, scalesAt, countsAt, boxesAt, stringsAt, polygonsAt, IsString, IsDate, Boxes}
 use Rattle.cgx_spec.specs.Checks.{part, DatesGood, NumbersGood, HoldsText, StringsGood, PolygonsGood}
 use Rattle.cgx_spec.proofs.Lists.{T→true, true→T, and-true, same→eq, same-refl}
+use Rattle.cgx_spec.proofs.Sizes.{flagged, by-flags}
 use Rattle.cgx_spec.proofs.Cuts.{cutAt, cut-is, whole, ending}
 use Rattle.cgx_spec.proofs.Agreement.{agreement}
 use Rattle.cgx_spec.proofs.Firsts.{and-iff, iff-by, every-iff, each-iff}
@@ -44,55 +45,40 @@ string-iff b = (
   (λ h. agreement .strings b .1 (subst (IsString b) (sym (agreement .texts b (h .text) (h .is))) (h .is))),
 )
 
+within-iff : (lo hi x : ℕ) → (within lo hi x ≡ true) ↔ ((lo ≤ x) × (x ≤ hi))
+within-iff lo hi x = (
+  (λ e. let h = and-iff (leb lo x) (leb x hi) .0 e in (leb-true lo x (h .0), leb-true x hi (h .1))),
+  (λ h. and-iff (leb lo x) (leb x hi) .1 (le-leb lo x (h .0), le-leb x hi (h .1))),
+)
+
 date-iff : (b : List ℕ) → (goodDate b ≡ true) ↔ IsDate b
 unfolding goodDate calendar
 date-iff b = (to, from)
   where
-    m : Bool
-    m = within 1 12 (getD b 2 0)
-
-    d : Bool
-    d = within 1 31 (getD b 3 0)
-
-    h : Bool
-    h = within 0 23 (getD b 4 0)
-
-    n : Bool
-    n = within 0 59 (getD b 5 0)
-
-    s : Bool
-    s = within 0 59 (getD b 6 0)
-
-    to : ((m && d && h && n && s) && eqb (getD b 7 0) 0) ≡ true → IsDate b
+    to : goodDate b ≡ true → IsDate b
     to e =
-        let e₁ = and-iff (m && d && h && n && s) (eqb (getD b 7 0) 0) .0 e in
-        let e₂ = and-iff (m && d && h && n) s .0 (e₁ .0) in
-        let e₃ = and-iff (m && d && h) n .0 (e₂ .0) in
-        let e₄ = and-iff (m && d) h .0 (e₃ .0) in
-        let e₅ = and-iff m d .0 (e₄ .0) in
-        let mo = and-iff (leb 1 (getD b 2 0)) (leb (getD b 2 0) 12) .0 (e₅ .0) in
-        let da = and-iff (leb 1 (getD b 3 0)) (leb (getD b 3 0) 31) .0 (e₅ .1) in
+        let e₁ = and-iff _ _ .0 e in
+        let e₂ = and-iff _ _ .0 (e₁ .0) in
+        let e₃ = and-iff _ _ .0 (e₂ .0) in
+        let e₄ = and-iff _ _ .0 (e₃ .0) in
+        let e₅ = and-iff _ _ .0 (e₄ .0) in
         record {
-          month = (leb-true 1 (getD b 2 0) (mo .0), leb-true (getD b 2 0) 12 (mo .1));
-          day = (leb-true 1 (getD b 3 0) (da .0), leb-true (getD b 3 0) 31 (da .1));
-          hour = leb-true (getD b 4 0) 23 (and-iff (leb 0 (getD b 4 0)) (leb (getD b 4 0) 23) .0 (e₄ .1) .1);
-          minute = leb-true (getD b 5 0) 59 (and-iff (leb 0 (getD b 5 0)) (leb (getD b 5 0) 59) .0 (e₃ .1) .1);
-          second = leb-true (getD b 6 0) 59 (and-iff (leb 0 (getD b 6 0)) (leb (getD b 6 0) 59) .0 (e₂ .1) .1);
+          month = within-iff 1 12 (getD b 2 0) .0 (e₅ .0);
+          day = within-iff 1 31 (getD b 3 0) .0 (e₅ .1);
+          hour = within-iff 0 23 (getD b 4 0) .0 (e₄ .1) .1;
+          minute = within-iff 0 59 (getD b 5 0) .0 (e₃ .1) .1;
+          second = within-iff 0 59 (getD b 6 0) .0 (e₂ .1) .1;
           last = eqb-true (getD b 7 0) 0 (e₁ .1);
         }
 
-    both : (lo hi x : ℕ) → lo ≤ x → x ≤ hi → within lo hi x ≡ true
-    both lo hi x l u = and-iff (leb lo x) (leb x hi) .1 (le-leb lo x l, le-leb x hi u)
-
-    from : IsDate b → ((m && d && h && n && s) && eqb (getD b 7 0) 0) ≡ true
+    from : IsDate b → goodDate b ≡ true
     from i =
-        let m₁ : m ≡ true = both 1 12 (getD b 2 0) (i .month .0) (i .month .1) in
-        let d₁ : d ≡ true = both 1 31 (getD b 3 0) (i .day .0) (i .day .1) in
-        let h₁ : h ≡ true = both 0 23 (getD b 4 0) (omega arith) (i .hour) in
-        let n₁ : n ≡ true = both 0 59 (getD b 5 0) (omega arith) (i .minute) in
-        let s₁ : s ≡ true = both 0 59 (getD b 6 0) (omega arith) (i .second) in
-        and-iff (m && d && h && n && s) (eqb (getD b 7 0) 0) .1
-        (and-iff (m && d && h && n) s .1 (and-iff (m && d && h) n .1 (and-iff (m && d) h .1 (and-iff m d .1 (m₁, d₁), h₁), n₁), s₁), eq-eqb (getD b 7 0) 0 (i .last))
+        let m = within-iff 1 12 (getD b 2 0) .1 (i .month) in
+        let d = within-iff 1 31 (getD b 3 0) .1 (i .day) in
+        let h = within-iff 0 23 (getD b 4 0) .1 (omega arith, i .hour) in
+        let n = within-iff 0 59 (getD b 5 0) .1 (omega arith, i .minute) in
+        let s = within-iff 0 59 (getD b 6 0) .1 (omega arith, i .second) in
+        and-iff _ _ .1 (and-iff _ _ .1 (and-iff _ _ .1 (and-iff _ _ .1 (and-iff _ _ .1 (m, d), h), n), s), eq-eqb (getD b 7 0) 0 (i .last))
 
 boxes-iff : (zs : List ℤ) → (inOrder zs ≡ true) ↔ Boxes zs
 unfolding inOrder
@@ -100,13 +86,13 @@ boxes-iff [] = ((λ e. tt), (λ u. refl))
 boxes-iff (l ∷ []) = ((λ e. tt), (λ u. refl))
 boxes-iff (l ∷ b ∷ []) = ((λ e. tt), (λ u. refl))
 boxes-iff (l ∷ b ∷ r ∷ []) = ((λ e. tt), (λ u. refl))
-boxes-iff (l ∷ b ∷ r ∷ t ∷ zs) =
-    let first = and-iff (leZ l r) (leZ b t) in
-    let both = and-iff (leZ l r && leZ b t) (inOrder zs) in
-    let more = boxes-iff zs in (
-      (λ e. let x = both .0 e in let y = first .0 (x .0) in (le-iff l r .0 (y .0), le-iff b t .0 (y .1), more .0 (x .1))),
-      (λ h. both .1 (first .1 (le-iff l r .1 (h .0), le-iff b t .1 (h .1)), more .1 (h .2))),
-    )
+boxes-iff (l ∷ b ∷ r ∷ t ∷ zs) = (
+  (λ e.
+      let x = and-iff _ _ .0 e in
+      let y = and-iff _ _ .0 (x .0) in
+      (le-iff l r .0 (y .0), le-iff b t .0 (y .1), boxes-iff zs .0 (x .1))),
+  (λ h. and-iff _ _ .1 (and-iff _ _ .1 (le-iff l r .1 (h .0), le-iff b t .1 (h .1)), boxes-iff zs .1 (h .2))),
+)
 
 -- four bytes are one long
 count-is : (l : List ℕ) → length l ≡ 4 → ones (longsOf l) ≡ leZ (pos 1) (longOf l)
@@ -117,31 +103,6 @@ count-is (a ∷ b ∷ []) e = absurd (omega arith)
 count-is (a ∷ b ∷ c ∷ []) e = absurd (omega arith)
 count-is (a ∷ b ∷ c ∷ d ∷ []) e = and-true (leZ (pos 1) (longOf (a ∷ b ∷ c ∷ d ∷ [])))
 count-is (a ∷ b ∷ c ∷ d ∷ x ∷ l) e = absurd (omega arith)
-
--- ---- an SREF by its flags
-
--- flags of which the bits for an angle, a magnif and an array are these
-abbrev flagged : Bool → Bool → Bool → ℕ
-flagged x y z = cond x 1 0 + cond y 2 0 + cond z 8 0
-
--- what holds of the fields and offsets with each of these flags holds with any
-module _ (P : List Field → List ℕ → List ℕ → List ℕ → Type 0) where
-  abbrev Of : ℕ → Type 0
-  Of fl = P (layout Sref fl) (scalesAt Sref fl) (countsAt Sref fl) (stringsAt Sref fl 0)
-
-  by-flags : ((x y z : Bool) → Of (flagged x y z)) → (fl : ℕ) → Of fl
-  unfolding layout scalesAt countsAt stringsAt
-  by-flags h fl = go (angle fl) refl (magnif fl) refl (array fl) refl
-    where
-      go : (x : Bool) → angle fl ≡ x → (y : Bool) → magnif fl ≡ y → (z : Bool) → array fl ≡ z → Of fl
-      go true ex true ey true ez = rw (ex, ey, ez) (h true true true)
-      go true ex true ey false ez = rw (ex, ey, ez) (h true true false)
-      go true ex false ey true ez = rw (ex, ey, ez) (h true false true)
-      go true ex false ey false ez = rw (ex, ey, ez) (h true false false)
-      go false ex true ey true ez = rw (ex, ey, ez) (h false true true)
-      go false ex true ey false ez = rw (ex, ey, ez) (h false true false)
-      go false ex false ey true ez = rw (ex, ey, ez) (h false false true)
-      go false ex false ey false ez = rw (ex, ey, ez) (h false false false)
 
 -- ---- the fields by their offsets
 
@@ -180,7 +141,7 @@ module _ (a s t fl : ℕ) (body : List ℕ) where
   dates-same Poly = refl
   dates-same Wire = refl
   dates-same Text = refl
-  dates-same Sref = by-flags (λ fs ss cs ns. kept 9 fs ≡ true) sref-dates fl
+  dates-same Sref = by-flags (λ fs ss cs at. kept 9 fs ≡ true) sref-dates fl
   dates-same Endlib = refl
 
   -- rule 10
@@ -224,7 +185,7 @@ module _ (a s t fl : ℕ) (body : List ℕ) where
   numbers-same Poly = refl
   numbers-same Wire = refl
   numbers-same Text = refl
-  numbers-same Sref = by-flags (λ fs ss cs ns. kept 10 fs ≡ numbers ss cs []) sref-numbers fl
+  numbers-same Sref = by-flags (λ fs ss cs at. kept 10 fs ≡ numbers ss cs []) sref-numbers fl
   numbers-same Endlib = refl
 
   -- rule 11
@@ -235,7 +196,7 @@ module _ (a s t fl : ℕ) (body : List ℕ) where
   ends : (at : ℕ) → (goodString (take (length body - at) (drop at body)) && true) ≡ (goodString (drop at body) && true)
   ends at = ap (λ (l : List ℕ). goodString l && true) (sym (ending body at))
 
-  sref-strings : (x y z : Bool) → let g = flagged x y z in kept 11 (layout Sref g) ≡ strings (stringsAt Sref g 0)
+  sref-strings : (x y z : Bool) → let g = flagged x y z in kept 11 (layout Sref g) ≡ strings (nameAt g ∷ [])
   unfolding keeps ruleOf good width layout stringsAt
   sref-strings true true true = ends 48
   sref-strings true true false = ends 24
@@ -265,7 +226,7 @@ module _ (a s t fl : ℕ) (body : List ℕ) where
   strings-same Poly n e = refl
   strings-same Wire n e = refl
   strings-same Text n e = ends 12
-  strings-same Sref n e = by-flags (λ fs ss cs ns. kept 11 fs ≡ strings ns) sref-strings fl
+  strings-same Sref n e = by-flags (λ fs ss cs at. kept 11 fs ≡ strings (at ∷ [])) sref-strings fl
   strings-same Endlib n e = refl
 
   -- rule 12
@@ -299,12 +260,12 @@ module _ (a s t fl : ℕ) (body : List ℕ) where
   polygons-same Layer n e g = refl
   polygons-same Box n e g = refl
   polygons-same Poly n e g =
-      let least = leb-true 36 n (and-iff (leb 36 n) (leb n 65532) .0 (and-iff (leb 36 n && leb n 65532) (eqb ((n - 4) % 8) 0) .0 g .0) .0) in
+      let least = leb-true 36 n (and-iff _ _ .0 (and-iff _ _ .0 g .0) .0) in
       ap (λ (l : List ℕ). same (take 8 l) (drop (length l - 8) l) && true) (sym (whole body))
       ∙ ap (λ (l : List ℕ). same (take 8 body) l && true) (last-eight n e (omega arith))
   polygons-same Wire n e g = refl
   polygons-same Text n e g = refl
-  polygons-same Sref n e g = by-flags (λ fs ss cs ns. kept 12 fs ≡ true) sref-polygons fl
+  polygons-same Sref n e g = by-flags (λ fs ss cs at. kept 12 fs ≡ true) sref-polygons fl
   polygons-same Endlib n e g = refl
 
   -- ---- the rules
@@ -320,11 +281,11 @@ module _ (a s t fl : ℕ) (body : List ℕ) where
   counts-inside Poly n g = tt
   counts-inside Wire n g = tt
   counts-inside Text n g = tt
-  counts-inside Sref n g = go (hasAngle fl) (hasMagnif fl) (hasArray fl) g
+  counts-inside Sref n g = go (hasArray fl) g
     where
-      go : (x y z : Bool) → leb (nameAt x y z + 2) n ≡ true → All (λ (at : ℕ). at + 4 ≤ n) (cond z (arrayAt x y ∷ (arrayAt x y + 4) ∷ []) [])
-      go x y true e = let l = leb-true (nameAt x y true + 2) n e in (omega arith, (omega arith, tt))
-      go x y false e = tt
+      go : (z : Bool) → leb (colsAt fl + cond z 24 0 + 2) n ≡ true → All (λ (at : ℕ). at + 4 ≤ n) (cond z (colsAt fl ∷ (colsAt fl + 4) ∷ []) [])
+      go true e = let l = leb-true (colsAt fl + 24 + 2) n e in (omega arith, (omega arith, tt))
+      go false e = tt
   counts-inside Endlib n g = tt
 
   abbrev held : ℕ → Kind → Bool

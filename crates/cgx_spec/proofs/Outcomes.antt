@@ -23,7 +23,7 @@ use Rattle.cgx_spec.proofs.Located.{dates-iff, numbers-iff, strings-iff
 
 -- ---- what is asked of the kind of a type
 
-same-kind : (k l : Kind) → typeByte k ≡ typeByte l → k ≡ l
+pub same-kind : (k l : Kind) → typeByte k ≡ typeByte l → k ≡ l
 same-kind k l e = let z : some k ≡ some l = sym (agreement .types k) ∙ ap kindOf e ∙ agreement .types l in cc
 
 of-kind : (k : Kind) (Q : Kind → Type 0) → Q k ↔ OfKind (typeByte k) Q

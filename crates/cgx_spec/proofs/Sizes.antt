@@ -2,18 +2,19 @@
 use mathlib.Core.Path.{_≡_, refl, sym, ap, ap₂, _∙_, subst}
 use mathlib.Core.Bool.{Bool, true, false, _&&_, cond}
 use mathlib.Core.List.{List, [], _∷_}
-use Prim.Native.Nat.{ℕ, _+_, _*_, _/_, _%_, _-_, _≤_, _<_, min}
+use mathlib.Core.Option.{Option, none, some}
+use Prim.Native.Nat.{ℕ, zero, suc, _+_, _*_, _/_, _%_, _-_, _≤_, _<_, min}
 use native.Mathlib.Nat.{sub-zero, mul-comm, mul-le-mul-left, le-div-iff-mul-le, div-le-of-le-mul}
 use native.Mathlib.Omega.{arith}
 use lib.Dec.{T, leb, eqb, leb→le, le→leb, eqb→eq}
 use lib.ListN.{length, drop, length-take, length-drop}
 use Rattle.cgx_spec.specs.declared.Kind.{Kind}
 use Rattle.cgx_spec.specs.declared.Kind.the-variants.{Library, Struct, Cprpty, Property, Layer, Box, Poly, Wire, Text, Sref, Endlib}
-use Rattle.cgx_spec.specs.Fields.{Test, any, counts, ordered, closed, Field, real, positive, date, short, longs, string, optional, absent, units, fits, width, pieces, lengthsFit}
-use Rattle.cgx_spec.specs.Kinds.{angle, magnif, array, onlyIf, point, layout}
+use Rattle.cgx_spec.specs.Fields.{Test, any, ordered, closed, Field, real, positive, date, short, longs, string, optional, absent, units, fits, width, pieces, lengthsFit}
+use Rattle.cgx_spec.specs.Kinds.{layout}
 use Rattle.cgx_spec.specs.Records.{Rec, size, piecesOf}
 use Rattle.cgx_spec.specs.Files.{go, before}
-use Rattle.cgx_spec.specs.Restated.{repeated, goodSize}
+use Rattle.cgx_spec.specs.Restated.{hasAngle, hasMagnif, hasArray, nameAt, repeated, goodSize, scalesAt, countsAt}
 use Rattle.cgx_spec.proofs.Lists.{T→true, true→T, ¬T→false, false→¬T, eq→eqb, bool-ext, and-true, and-assoc, and-left, and-right, and-both, units-is, to-units}
 
 -- ---- the fields fit by the length of the body alone
@@ -65,13 +66,38 @@ fixed-long : (t : Test) → Fixed (longs 1 1 1 t) 4
 unfolding width fits
 fixed-long t = record { takes = λ n. refl; fits-if = λ n. bool-ext (units 4 1 1 (min 4 n)) (leb 4 n) (λ h. le→leb 4 n (omega (arith, units-least 4 1 1 (min 4 n) h))) (λ h. let l : 4 ≤ n = leb→le 4 n h in to-units 4 1 1 (min 4 n) (omega arith) (omega arith) (omega arith)) }
 
-fixed-point : Fixed point 8
+fixed-point : (t : Test) → Fixed (longs 2 1 1 t) 8
 unfolding width fits
-fixed-point = record { takes = λ n. refl; fits-if = λ n. bool-ext (units 8 1 1 (min 8 n)) (leb 8 n) (λ h. le→leb 8 n (omega (arith, units-least 8 1 1 (min 8 n) h))) (λ h. let l : 8 ≤ n = leb→le 8 n h in to-units 8 1 1 (min 8 n) (omega arith) (omega arith) (omega arith)) }
+fixed-point t = record { takes = λ n. refl; fits-if = λ n. bool-ext (units 8 1 1 (min 8 n)) (leb 8 n) (λ h. le→leb 8 n (omega (arith, units-least 8 1 1 (min 8 n) h))) (λ h. let l : 8 ≤ n = leb→le 8 n h in to-units 8 1 1 (min 8 n) (omega arith) (omega arith) (omega arith)) }
 
-fixed-if : (z : Bool) {f : Field} {w : ℕ} → Fixed f w → Fixed (onlyIf z f) (cond z w 0)
-fixed-if true h = h
-fixed-if false h = fixed-absent
+-- a field and the length that it always has
+record Always (f : Field) : Type 0 where
+  long : ℕ
+  is : Fixed f long
+
+abbrev has : {f : Field} (w : ℕ) → Fixed f w → Option (Always f)
+has w h = some (record { long = w; is = h })
+
+always : (f : Field) → Option (Always f)
+always real = has 8 fixed-real
+always positive = has 8 fixed-positive
+always date = has 8 fixed-date
+always short = has 2 fixed-short
+always (longs zero lo hi t) = none
+always (longs (suc zero) zero hi t) = none
+always (longs (suc zero) (suc zero) zero t) = none
+always (longs (suc zero) (suc zero) (suc zero) t) = has 4 (fixed-long t)
+always (longs (suc zero) (suc zero) (suc (suc hi)) t) = none
+always (longs (suc zero) (suc (suc lo)) hi t) = none
+always (longs (suc (suc zero)) zero hi t) = none
+always (longs (suc (suc zero)) (suc zero) zero t) = none
+always (longs (suc (suc zero)) (suc zero) (suc zero) t) = has 8 (fixed-point t)
+always (longs (suc (suc zero)) (suc zero) (suc (suc hi)) t) = none
+always (longs (suc (suc zero)) (suc (suc lo)) hi t) = none
+always (longs (suc (suc (suc n))) lo hi t) = none
+always string = none
+always optional = none
+always absent = has 0 fixed-absent
 
 -- ---- a beginning of fixed length
 
@@ -91,10 +117,9 @@ two-tests w a n =
     le→leb (w + a) n (omega arith))
     (λ t. let l = leb→le (w + a) n t in and-both (leb w n) (leb a (n - w)) (le→leb w n (omega arith)) (le→leb a (n - w) (omega arith)))
 
-infixr 50 _then_
-_then_ : {f : Field} {w : ℕ} {fs : List Field} {a : ℕ} {rest : List Field} → Fixed f w → Prefix fs a rest → Prefix (f ∷ fs) (w + a) rest
+prefix-more : {f : Field} {w : ℕ} {fs : List Field} {a : ℕ} {rest : List Field} → Fixed f w → Prefix fs a rest → Prefix (f ∷ fs) (w + a) rest
 unfolding fitsAll
-_then_ {f} {w} {fs} {a} {rest} h p =
+prefix-more {f} {w} {fs} {a} {rest} h p =
     record {
       is = λ n.
           let e : n - w - a ≡ n - (w + a) = omega arith in
@@ -102,6 +127,20 @@ _then_ {f} {w} {fs} {a} {rest} h p =
           ∙ and-assoc (leb w n) (leb a (n - w)) (fitsAll rest (n - w - a))
           ∙ ap₂ _&&_ (two-tests w a n) (ap (fitsAll rest) e);
     }
+
+-- the fields of fixed length that a list begins with
+record Leads (fs : List Field) : Type 0 where
+  long : ℕ
+  rest : List Field
+  is : Prefix fs long rest
+
+abbrev lead : (f : Field) (fs : List Field) → Option (Always f) → Leads fs → Leads (f ∷ fs)
+lead f fs none l = record { long = 0; rest = f ∷ fs; is = prefix-end (f ∷ fs) }
+lead f fs (some a) l = record { long = a .long + l .long; rest = l .rest; is = prefix-more (a .is) (l .is) }
+
+leading : (fs : List Field) → Leads fs
+leading [] = record { long = 0; rest = []; is = prefix-end [] }
+leading (f ∷ fs) = lead f fs (always f) (leading fs)
 
 -- ---- what ends a record
 
@@ -183,53 +222,61 @@ behind-width n = go (leb 4 n) refl
         let l : leb (8 + 8 * 1) (4 + n) ≡ false = ¬T→false (λ t. false→¬T e (le→leb 4 n (omega (arith, leb→le 16 (4 + n) t)))) in
         rw l
 
--- the bytes of an SREF's fields before its string
-abbrev before-name : Bool → Bool → Bool → ℕ
-before-name x y z = 4 + (4 + (cond x 8 0 + (cond y 8 0 + (cond z 4 0 + (cond z 4 0 + (cond z 8 0 + (cond z 8 0 + 0)))))))
+-- ---- an SREF by its flags
 
-before-even : (x y z : Bool) → before-name x y z % 2 ≡ 0
-before-even true true true = refl
-before-even true true false = refl
-before-even true false true = refl
-before-even true false false = refl
-before-even false true true = refl
-before-even false true false = refl
-before-even false false true = refl
-before-even false false false = refl
+-- flags of which the bits for an angle, a magnif and an array are these
+abbrev pub flagged : Bool → Bool → Bool → ℕ
+flagged x y z = cond x 1 0 + cond y 2 0 + cond z 8 0
 
-before-sum : (x y z : Bool) → before-name x y z + 2 + 4 ≡ 4 + 8 + cond x 8 0 + cond y 8 0 + cond z 24 0 + 2
-before-sum true true true = refl
-before-sum true true false = refl
-before-sum true false true = refl
-before-sum true false false = refl
-before-sum false true true = refl
-before-sum false true false = refl
-before-sum false false true = refl
-before-sum false false false = refl
+-- what holds of its fields, and of the offsets of its scales, its counts and its name, with each of these flags, holds with any
+module _ (P : List Field → List ℕ → List ℕ → ℕ → Type 0) where
+  abbrev pub OfFlags : ℕ → Type 0
+  OfFlags fl = P (layout Sref fl) (scalesAt Sref fl) (countsAt Sref fl) (nameAt fl)
+
+  pub by-flags : ((x y z : Bool) → OfFlags (flagged x y z)) → (fl : ℕ) → OfFlags fl
+  unfolding layout scalesAt countsAt
+  by-flags h fl = go (hasAngle fl) refl (hasMagnif fl) refl (hasArray fl) refl
+    where
+      go : (x : Bool) → hasAngle fl ≡ x → (y : Bool) → hasMagnif fl ≡ y → (z : Bool) → hasArray fl ≡ z → OfFlags fl
+      go true ex true ey true ez = rw (ex, ey, ez) (h true true true)
+      go true ex true ey false ez = rw (ex, ey, ez) (h true true false)
+      go true ex false ey true ez = rw (ex, ey, ez) (h true false true)
+      go true ex false ey false ez = rw (ex, ey, ez) (h true false false)
+      go false ex true ey true ez = rw (ex, ey, ez) (h false true true)
+      go false ex true ey false ez = rw (ex, ey, ez) (h false true false)
+      go false ex false ey true ez = rw (ex, ey, ez) (h false false true)
+      go false ex false ey false ez = rw (ex, ey, ez) (h false false false)
+
+-- ---- the sizes of each kind
+
+sref-size : (n : ℕ) → n % 2 ≡ 0 → n ≤ 65530 → (x y z : Bool) → OfFlags (λ fs ss cs at. fitsAll fs n ≡ leb (at + 2) (4 + n)) (flagged x y z)
+unfolding layout leading always
+sref-size n e l true true true = with-string (layout Sref 11) 48 (leading _ .is) refl n e (omega arith)
+sref-size n e l true true false = with-string (layout Sref 3) 24 (leading _ .is) refl n e (omega arith)
+sref-size n e l true false true = with-string (layout Sref 9) 40 (leading _ .is) refl n e (omega arith)
+sref-size n e l true false false = with-string (layout Sref 1) 16 (leading _ .is) refl n e (omega arith)
+sref-size n e l false true true = with-string (layout Sref 10) 40 (leading _ .is) refl n e (omega arith)
+sref-size n e l false true false = with-string (layout Sref 2) 16 (leading _ .is) refl n e (omega arith)
+sref-size n e l false false true = with-string (layout Sref 8) 32 (leading _ .is) refl n e (omega arith)
+sref-size n e l false false false = with-string (layout Sref 0) 8 (leading _ .is) refl n e (omega arith)
 
 fits-size : (k : Kind) (fl n : ℕ) → n % 2 ≡ 0 → n ≤ 65530 → fitsAll (layout k fl) n ≡ goodSize k fl (4 + n)
-unfolding layout goodSize
-fits-size Library fl n e l = with-string (layout Library fl) 32 (fixed-positive then fixed-positive then fixed-date then fixed-date then prefix-end (string ∷ [])) refl n e (omega arith)
-fits-size Struct fl n e l = with-string (layout Struct fl) 16 (fixed-date then fixed-date then prefix-end (string ∷ [])) refl n e (omega arith)
-fits-size Cprpty fl n e l = with-string (layout Cprpty fl) 4 (fixed-long any then prefix-end (string ∷ [])) refl n e (omega arith)
-fits-size Property fl n e l = with-string (layout Property fl) 4 (fixed-long any then prefix-end (string ∷ [])) refl n e (omega arith)
+unfolding layout goodSize leading always
+fits-size Library fl n e l = with-string (layout Library fl) 32 (leading _ .is) refl n e (omega arith)
+fits-size Struct fl n e l = with-string (layout Struct fl) 16 (leading _ .is) refl n e (omega arith)
+fits-size Cprpty fl n e l = with-string (layout Cprpty fl) 4 (leading _ .is) refl n e (omega arith)
+fits-size Property fl n e l = with-string (layout Property fl) 4 (leading _ .is) refl n e (omega arith)
 fits-size Layer fl n e l =
-    let p : Prefix (layout Layer fl) 4 (optional ∷ []) = fixed-short then fixed-short then prefix-end (optional ∷ []) in
+    let p : Prefix (layout Layer fl) 4 (optional ∷ []) = leading _ .is in
     p .is n ∙ ap (λ (b : Bool). leb 4 n && b) (optional-end (n - 4) (omega arith) (omega arith)) ∙ and-true (leb 4 n)
     ∙ bool-ext (leb 4 n) (leb 8 (4 + n)) (λ t. le→leb 8 (4 + n) (omega (arith, leb→le 4 n t))) (λ t. le→leb 4 n (omega (arith, leb→le 8 (4 + n) t)))
 fits-size Box fl n e l = longs-end 4 1 4095 ordered n refl ∙ units-repeated 16 (omega arith) 4 1 4095 n
 fits-size Poly fl n e l = longs-end 2 4 8191 closed n refl ∙ units-repeated 8 (omega arith) 4 4 8191 n
 fits-size Wire fl n e l =
-    let p : Prefix (layout Wire fl) 4 (longs 2 1 8190 any ∷ []) = fixed-long any then prefix-end (longs 2 1 8190 any ∷ []) in
+    let p : Prefix (layout Wire fl) 4 (longs 2 1 8190 any ∷ []) = leading _ .is in
     p .is n ∙ ap (λ (b : Bool). leb 4 n && b) (longs-end 2 1 8190 any (n - 4) refl) ∙ behind-width n
-fits-size Text fl n e l = with-string (layout Text fl) 12 (fixed-long any then fixed-long any then fixed-long any then prefix-end (string ∷ [])) refl n e (omega arith)
-fits-size Sref fl n e l =
-    let x = angle fl in
-    let y = magnif fl in
-    let z = array fl in
-    let p : Prefix (layout Sref fl) (before-name x y z) (string ∷ []) =
-    fixed-long any then fixed-long any then fixed-if x fixed-real then fixed-if y fixed-positive then fixed-if z (fixed-long counts) then fixed-if z (fixed-long counts) then fixed-if z fixed-point then fixed-if z fixed-point then prefix-end (string ∷ []) in
-    with-string (layout Sref fl) (before-name x y z) p (before-even x y z) n e (omega arith) ∙ ap (λ (m : ℕ). leb m (4 + n)) (before-sum x y z)
+fits-size Text fl n e l = with-string (layout Text fl) 12 (leading _ .is) refl n e (omega arith)
+fits-size Sref fl n e l = by-flags (λ fs ss cs at. fitsAll fs n ≡ leb (at + 2) (4 + n)) (sref-size n e l) fl
 fits-size Endlib fl n e l = unfold fitsAll in (bool-ext (eqb n 0) (eqb (4 + n) 4) (λ t. eq→eqb (4 + n) 4 (omega (arith, eqb→eq n 0 t))) (λ t. eq→eqb n 0 (omega (arith, eqb→eq (4 + n) 4 t))))
 
 pub sizes-agree : (k : Kind) (r : Rec) → length (r .body) % 2 ≡ 0 → length (r .body) ≤ 65530 → lengthsFit (piecesOf k r) ≡ goodSize k (r .flags) (size r)

@@ -41,15 +41,15 @@ hasMagnif fl = eqb (fl / 2 % 2) 1
 abbrev pub hasArray : ℕ → Bool
 hasArray fl = eqb (fl / 8 % 2) 1
 
--- Where they begin: after size, type, flags, x and y, and 8 bytes for an angle, 8 for a magnif, 24 for an array.
-abbrev pub magnifAt : Bool → ℕ
-magnifAt angle = 4 + 8 + cond angle 8 0
+-- Where an SREF's magnif, its cols and its name begin: after size, type, flags, x and y, and 8 bytes for an angle, 8 for a magnif, 24 for an array.
+abbrev pub magnifAt : ℕ → ℕ
+magnifAt fl = 4 + 8 + cond (hasAngle fl) 8 0
 
-abbrev pub arrayAt : Bool → Bool → ℕ
-arrayAt angle magnif = magnifAt angle + cond magnif 8 0
+abbrev pub colsAt : ℕ → ℕ
+colsAt fl = magnifAt fl + cond (hasMagnif fl) 8 0
 
-abbrev pub nameAt : Bool → Bool → Bool → ℕ
-nameAt angle magnif array = arrayAt angle magnif + cond array 24 0
+abbrev pub nameAt : ℕ → ℕ
+nameAt fl = colsAt fl + cond (hasArray fl) 24 0
 
 -- From lo to hi things of u bytes each, behind `base` bytes.
 abbrev pub repeated : ℕ → ℕ → ℕ → ℕ → ℕ → Bool
@@ -70,7 +70,7 @@ goodSize Poly fl n = repeated 4 8 4 8191 n
 goodSize Wire fl n = repeated 8 8 1 8190 n
 goodSize Text fl n = leb 18 n
 -- "string ≥ 2 bytes"
-goodSize Sref fl n = leb (nameAt (hasAngle fl) (hasMagnif fl) (hasArray fl) + 2) n
+goodSize Sref fl n = leb (nameAt fl + 2) n
 -- "size 4"
 goodSize Endlib fl n = eqb n 4
 
@@ -116,7 +116,7 @@ scalesAt Box fl = []
 scalesAt Poly fl = []
 scalesAt Wire fl = []
 scalesAt Text fl = []
-scalesAt Sref fl = cond (hasMagnif fl) (magnifAt (hasAngle fl) ∷ []) []
+scalesAt Sref fl = cond (hasMagnif fl) (magnifAt fl ∷ []) []
 scalesAt Endlib fl = []
 
 -- "cols, rows ≥ 1": longs, by kind and flags
@@ -130,9 +130,7 @@ countsAt Box fl = []
 countsAt Poly fl = []
 countsAt Wire fl = []
 countsAt Text fl = []
-countsAt Sref fl =
-    let cols = arrayAt (hasAngle fl) (hasMagnif fl) in
-    cond (hasArray fl) (cols ∷ (cols + 4) ∷ []) []
+countsAt Sref fl = cond (hasArray fl) (colsAt fl ∷ (colsAt fl + 4) ∷ []) []
 countsAt Endlib fl = []
 
 -- "left, bottom, right, top, repeated", up to the end of the record
@@ -163,7 +161,7 @@ stringsAt Poly fl n = []
 stringsAt Wire fl n = []
 -- after x, y and width
 stringsAt Text fl n = 16 ∷ []
-stringsAt Sref fl n = nameAt (hasAngle fl) (hasMagnif fl) (hasArray fl) ∷ []
+stringsAt Sref fl n = nameAt fl ∷ []
 stringsAt Endlib fl n = []
 
 -- "x, y pairs" of which "first = last", up to the end of the record
