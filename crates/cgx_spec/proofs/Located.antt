@@ -119,16 +119,17 @@ module _ (a s t fl : ℕ) (body : List ℕ) where
   abbrev dates : Kind → Bool
   dates k = every (λ at. goodDate (part at 8 rec)) (datesAt k)
 
-  sref-dates : (x y z : Bool) → kept 9 (layout Sref (flagged x y z)) ≡ true
+  -- an SREF has no dates and no polygon
+  sref-none : (x y z : Bool) → let fs = layout Sref (flagged x y z) in (kept 9 fs ≡ true) × (kept 12 fs ≡ true)
   unfolding keeps ruleOf good width layout
-  sref-dates true true true = refl
-  sref-dates true true false = refl
-  sref-dates true false true = refl
-  sref-dates true false false = refl
-  sref-dates false true true = refl
-  sref-dates false true false = refl
-  sref-dates false false true = refl
-  sref-dates false false false = refl
+  sref-none true true true = (refl, refl)
+  sref-none true true false = (refl, refl)
+  sref-none true false true = (refl, refl)
+  sref-none true false false = (refl, refl)
+  sref-none false true true = (refl, refl)
+  sref-none false true false = (refl, refl)
+  sref-none false false true = (refl, refl)
+  sref-none false false false = (refl, refl)
 
   dates-same : (k : Kind) → kept 9 (layout k fl) ≡ dates k
   unfolding keeps ruleOf good width layout datesAt
@@ -141,7 +142,7 @@ module _ (a s t fl : ℕ) (body : List ℕ) where
   dates-same Poly = refl
   dates-same Wire = refl
   dates-same Text = refl
-  dates-same Sref = by-flags (λ fs ss cs at. kept 9 fs ≡ true) sref-dates fl
+  dates-same Sref = by-flags (λ fs ss cs at. (kept 9 fs ≡ true) × (kept 12 fs ≡ true)) sref-none fl .0
   dates-same Endlib = refl
 
   -- rule 10
@@ -193,11 +194,12 @@ module _ (a s t fl : ℕ) (body : List ℕ) where
   abbrev strings : List ℕ → Bool
   strings l = every (λ at. goodString (drop at rec)) l
 
+  -- a string up to the end
   ends : (at : ℕ) → (goodString (take (length body - at) (drop at body)) && true) ≡ (goodString (drop at body) && true)
   ends at = ap (λ (l : List ℕ). goodString l && true) (sym (ending body at))
 
   sref-strings : (x y z : Bool) → let g = flagged x y z in kept 11 (layout Sref g) ≡ strings (nameAt g ∷ [])
-  unfolding keeps ruleOf good width layout stringsAt
+  unfolding keeps ruleOf good width layout
   sref-strings true true true = ends 48
   sref-strings true true false = ends 24
   sref-strings true false true = ends 40
@@ -207,6 +209,7 @@ module _ (a s t fl : ℕ) (body : List ℕ) where
   sref-strings false false true = ends 32
   sref-strings false false false = ends 8
 
+  -- "name or nothing"
   layer-string : (n : ℕ) → 4 + length body ≡ n → (good optional (drop 4 body) && true) ≡ strings (cond (leb n 8) [] (8 ∷ []))
   unfolding good
   layer-string n e = go (drop 4 body) refl
@@ -234,17 +237,6 @@ module _ (a s t fl : ℕ) (body : List ℕ) where
   abbrev polygons : ℕ → List ℕ → Bool
   polygons n l = every (λ at. same (part at 8 rec) (part (n - 8) 8 rec)) l
 
-  sref-polygons : (x y z : Bool) → kept 12 (layout Sref (flagged x y z)) ≡ true
-  unfolding keeps ruleOf good width layout
-  sref-polygons true true true = refl
-  sref-polygons true true false = refl
-  sref-polygons true false true = refl
-  sref-polygons true false false = refl
-  sref-polygons false true true = refl
-  sref-polygons false true false = refl
-  sref-polygons false false true = refl
-  sref-polygons false false false = refl
-
   last-eight : (n : ℕ) → 4 + length body ≡ n → 12 ≤ n → drop (length body - 8) body ≡ part (n - 8) 8 rec
   last-eight n e h =
       let d = length body - 8 in
@@ -265,11 +257,12 @@ module _ (a s t fl : ℕ) (body : List ℕ) where
       ∙ ap (λ (l : List ℕ). same (take 8 body) l && true) (last-eight n e (omega arith))
   polygons-same Wire n e g = refl
   polygons-same Text n e g = refl
-  polygons-same Sref n e g = by-flags (λ fs ss cs at. kept 12 fs ≡ true) sref-polygons fl
+  polygons-same Sref n e g = by-flags (λ fs ss cs at. (kept 9 fs ≡ true) × (kept 12 fs ≡ true)) sref-none fl .1
   polygons-same Endlib n e g = refl
 
   -- ---- the rules
 
+  -- where the size is good, the counts are in the record
   counts-inside : (k : Kind) (n : ℕ) → goodSize k fl n ≡ true → All (λ at. at + 4 ≤ n) (countsAt k fl)
   unfolding goodSize countsAt
   counts-inside Library n g = tt

@@ -84,9 +84,9 @@ of-unknown c t h =
 
 -- ---- needs by looking back
 
-stands-iff : (o : Offset) → (stands o ≡ true) ↔ (o ≡ Nowhere → ⊥)
-stands-iff Nowhere = ((λ e n. clash e refl), (λ n. absurd (n refl)))
-stands-iff (At p) = ((λ e n. let z : _≡_ {A = ℕ} 0 1 = cc in omega arith), (λ n. refl))
+offset-iff : (o : Offset) → (stands o ≡ true) ↔ (o ≡ Nowhere → ⊥)
+offset-iff Nowhere = ((λ e n. clash e refl), (λ n. absurd (n refl)))
+offset-iff (At p) = ((λ e n. let z : _≡_ {A = ℕ} 0 1 = cc in omega arith), (λ n. refl))
 
 not-iff : (b : Bool) → (not b ≡ true) ↔ (b ≡ false)
 not-iff true = ((λ e. sym e), (λ e. sym e))
@@ -101,8 +101,8 @@ met-iff : (bs : List Behind) (n : Need) → (met (lookBack bs) n ≡ true) ↔ M
 unfolding lookBack
 met-iff bs LibraryBefore = ((λ e. e), (λ e. e))
 met-iff bs NoLibraryBefore = not-iff (libraryBehind bs)
-met-iff bs OpenCell = stands-iff _
-met-iff bs LayerInForce = stands-iff _
+met-iff bs OpenCell = offset-iff _
+met-iff bs LayerInForce = offset-iff _
 met-iff bs NoneAwaiting = none-iff (propertiesBehind bs)
 met-iff bs OnlyCprpty = ((λ e. e), (λ e. e))
 

@@ -86,15 +86,16 @@ Met bs OnlyCprpty = structBehind bs ≡ true
 abbrev pub Kept : List Behind → ℕ → Need → Type 0
 Kept bs t n = asks n t ≡ true → Met bs n
 
+-- All of them.
 abbrev pub needs : List Need
 needs = LibraryBefore ∷ NoLibraryBefore ∷ OpenCell ∷ LayerInForce ∷ NoneAwaiting ∷ OnlyCprpty ∷ []
 
--- ---- the rules 9 to 12 of a record of a kind
+-- ---- the rules 9 to 12 of a record r of a kind
 
 abbrev pub DatesGood : Kind → List ℕ → Type 0
 DatesGood k r = All (λ at. IsDate (part at 8 r)) (datesAt k)
 
--- "scale, magnif", then "cols, rows", then "reversed box"
+-- "scale, magnif": above 0; "cols, rows": at least 1; "reversed box": none.
 pub record NumbersGood (k : Kind) (r : List ℕ) : Type 0 where
   pub scales : All (λ at. pos 0 <ℤ realOf (part at 8 r)) (scalesAt k (flagsIn r))
   pub counts : All (λ at. pos 1 ≤ℤ longOf (part at 4 r)) (countsAt k (flagsIn r))
@@ -108,7 +109,7 @@ pub record HoldsText (b : List ℕ) : Type 0 where
 abbrev pub StringsGood : Kind → List ℕ → Type 0
 StringsGood k r = All (λ at. HoldsText (drop at r)) (stringsAt k (flagsIn r) (sizeIn r))
 
--- The first point, of eight bytes, and the last eight bytes.
+-- "first = last": the first point, of eight bytes, is the last eight bytes of the record.
 abbrev pub PolygonsGood : Kind → List ℕ → Type 0
 PolygonsGood k r = All (λ at. part at 8 r ≡ part (sizeIn r - 8) 8 r) (polygonsAt k)
 
