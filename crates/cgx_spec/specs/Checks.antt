@@ -86,12 +86,13 @@ Met bs OnlyCprpty = structBehind bs ≡ true
 abbrev pub Kept : List Behind → ℕ → Need → Type 0
 Kept bs t n = asks n t ≡ true → Met bs n
 
--- All of them.
+-- All needs.
 abbrev pub needs : List Need
 needs = LibraryBefore ∷ NoLibraryBefore ∷ OpenCell ∷ LayerInForce ∷ NoneAwaiting ∷ OnlyCprpty ∷ []
 
 -- ---- the rules 9 to 12 of a record r of a kind
 
+-- Each of its dates is one.
 abbrev pub DatesGood : Kind → List ℕ → Type 0
 DatesGood k r = All (λ at. IsDate (part at 8 r)) (datesAt k)
 
@@ -106,6 +107,7 @@ pub record HoldsText (b : List ℕ) : Type 0 where
   pub text : List ℕ
   pub is : IsString b text
 
+-- Each of its strings is one.
 abbrev pub StringsGood : Kind → List ℕ → Type 0
 StringsGood k r = All (λ at. HoldsText (drop at r)) (stringsAt k (flagsIn r) (sizeIn r))
 
@@ -245,6 +247,7 @@ pub record Stopped (f : List ℕ) (n at : ℕ) : Type 0 where
   pub number : n ≡ numberOf check
   pub first : FirstFails (Passes before (drop at f)) (checksAt (endBehind before)) check
 
+-- The verdict is true of the file.
 abbrev pub True : List ℕ → Verdict → Type 0
 True f accepted = AllGood f
 True f (refused n at) = NotBegun f n at ⊎ Stopped f n at
