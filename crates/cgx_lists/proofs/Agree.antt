@@ -9,21 +9,15 @@ use lib.IntN.{ℤ, pos}
 use lib.ListN.{length, take, drop, getD, length-drop}
 use lib.Seq.{length-take-le, take-take, take-add, drop-at, drop-drop}
 use Rattle.cgx_spec.specs.Numbers.{longOf, longsOf}
-use Rattle.cgx_spec.specs.Fields.{Value, missing, exactly, numbers, text}
+use Rattle.cgx_spec.specs.Fields.{text}
 use Rattle.cgx_kinds.specs.declared.Repeat.{Repeat}
 use Rattle.cgx_kinds.specs.declared.Span.{Span}
 use Rattle.cgx_kinds.specs.Meant.{spanText, repeatNumbers}
 use Rattle.cgx_lists.specs.declared.BoxAt.the-variants.{Found as box}
 use Rattle.cgx_lists.specs.declared.PointAt.the-variants.{Found as point}
 use Rattle.cgx_lists.specs.Lists.{longAt, placeOf, boxOf, pointOf, within, spanBytes}
+use Rattle.cgx_lists.specs.Demand.{nth}
 use Rattle.cgx_lists.proofs.Stands.{stands-here, box-some, point-some}
-
--- the j-th number of a field's value
-abbrev pub nth : Value → ℕ → ℤ
-nth missing j = pos 0
-nth (exactly z) j = pos 0
-nth (numbers zs) j = getD zs j (pos 0)
-nth (text t) j = pos 0
 
 -- the j-th long
 longs-at : (b : List ℕ) (j : ℕ) → 4 * j + 4 ≤ length b → getD (longsOf b) j (pos 0) ≡ longOf (take 4 (drop (4 * j) b))

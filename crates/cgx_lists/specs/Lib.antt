@@ -1,2 +1,3 @@
--- What stands at an index of a list, or at a span of a file.
+-- What an index of a list, or a span, gives of a file, and what is proved of it.
 pub mod Lists
+pub mod Demand

@@ -1,2 +1,3 @@
--- Views as words of eight bytes.
+-- Views as words of eight bytes, and what is proved of them.
 pub mod ViewWords
+pub mod Demand

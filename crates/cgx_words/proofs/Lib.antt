@@ -1,2 +1,3 @@
--- `Places`: the words of a place say that place.
+-- `Places`: the words of a place say that place. `Demand`: what is proved of them.
 pub mod Places
+pub mod Demand

@@ -25,7 +25,7 @@ run-words (Of n k) = refl
 
 -- ---- places
 
-place-words : (p : Place) → let c = p .context in
+pub place-words : (p : Place) → let c = p .context in
     placeWords p ≡ p .at ∷ getD (offsetWords (c .cell)) 0 0 ∷ getD (offsetWords (c .cell)) 1 0 ∷ getD (offsetWords (c .layer)) 0 0 ∷ getD (offsetWords (c .layer)) 1 0
     ∷ getD (runWords (c .run)) 0 0 ∷ getD (runWords (c .run)) 1 0 ∷ getD (runWords (c .run)) 2 0 ∷ stateWord (c .library) (c .fresh) (c .ended) ∷ []
 unfolding placeWords

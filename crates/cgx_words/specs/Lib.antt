@@ -1,2 +1,3 @@
--- Places as words of eight bytes.
+-- Places as words of eight bytes, and what is proved of them.
 pub mod Words
+pub mod Demand
