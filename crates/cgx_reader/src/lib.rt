@@ -1,5 +1,5 @@
 // A reader that holds a file's bytes and its place in a walk over them, thin over `step`. The borrow checker covers no function over
-// such a struct, so each is proved by hand. `read_next` has plain parameters, and asks no such proof of its callers.
+// such a struct, so each is proved by hand. `read_next` and `read_on` have plain parameters, and ask no such proof of their callers.
 ghost use mathlib.Core.Path.{_≡_};
 ghost use Rattle.cgx_walk.specs.Walk.{StepMade};
 ghost use Rattle.cgx_reader.specs.Reading.{leftAt, Moves};
@@ -44,13 +44,25 @@ pub fn read_next(file: &[u8], place: Place) -> Outcome
     Reader::new(file, place).peek()
 }
 
-// ---- what `next` does with the plain bytes and place
-
 // What a step answers, and the place after it.
-struct Moved {
-    outcome: Outcome,
-    place: Place,
+pub struct Moved {
+    pub outcome: Outcome,
+    pub place: Place,
 }
+
+// One step, by a reader made for it, and the place where that reader is afterwards.
+pub fn read_on(file: &[u8], place: Place) -> Moved
+    ensures { λ r. ⌜ Moves (now (file .entry)) place (r .outcome) (r .place) ⌝ }
+{
+    let mut reader = Reader::new(file, place);
+    let outcome = reader.next();
+    Moved {
+        outcome,
+        place: reader.place,
+    }
+}
+
+// ---- what `next` does with the plain bytes and place
 
 fn step_from(file: &[u8], place: Place) -> Moved
     ensures { λ r. ⌜ Moves (now (file .entry)) place (r .outcome) (r .place) ⌝ }
