@@ -18,6 +18,7 @@ use cgx_fields::optional_good;
 use cgx_fields::string_good;
 use cgx_kinds::Boxes;
 use cgx_kinds::Cprpty;
+use cgx_kinds::Endlib;
 use cgx_kinds::Layer;
 use cgx_kinds::Library;
 use cgx_kinds::Poly;
@@ -27,9 +28,7 @@ use cgx_kinds::Struct;
 use cgx_kinds::Text;
 use cgx_kinds::Wire;
 use cgx_reals::positive_bytes;
-
-// The bytes before a body: its record's header.
-const HEADER: usize = 4;
+use cgx_spec::Kind;
 
 // ---- the eleven kinds
 
@@ -37,7 +36,7 @@ pub fn library_fault(b: &[u8], fl: u8) -> u8
     requires { ⌜ Body (now b) ⌝ }
     ensures { λ r. ⌜ r ≡ bodyFault KLibrary fl (now (b .entry)) ⌝ }
 {
-    if b.len() + HEADER < Library::MIN_SIZE {
+    if b.len() + Kind::HEADER_SIZE < Library::MIN_SIZE {
         return 8;
     }
     let munit = positive_bytes(&b[0..8]);
@@ -52,7 +51,7 @@ pub fn struct_fault(b: &[u8], fl: u8) -> u8
     requires { ⌜ Body (now b) ⌝ }
     ensures { λ r. ⌜ r ≡ bodyFault KStruct fl (now (b .entry)) ⌝ }
 {
-    if b.len() + HEADER < Struct::MIN_SIZE {
+    if b.len() + Kind::HEADER_SIZE < Struct::MIN_SIZE {
         return 8;
     }
     let created = date_good(&b[0..8]);
@@ -65,7 +64,7 @@ pub fn cprpty_fault(b: &[u8], fl: u8) -> u8
     requires { ⌜ Body (now b) ⌝ }
     ensures { λ r. ⌜ r ≡ bodyFault KCprpty fl (now (b .entry)) ⌝ }
 {
-    if b.len() + HEADER < Cprpty::MIN_SIZE {
+    if b.len() + Kind::HEADER_SIZE < Cprpty::MIN_SIZE {
         return 8;
     }
     let value = string_good(&b[4..]);
@@ -76,7 +75,7 @@ pub fn property_fault(b: &[u8], fl: u8) -> u8
     requires { ⌜ Body (now b) ⌝ }
     ensures { λ r. ⌜ r ≡ bodyFault KProperty fl (now (b .entry)) ⌝ }
 {
-    if b.len() + HEADER < Property::MIN_SIZE {
+    if b.len() + Kind::HEADER_SIZE < Property::MIN_SIZE {
         return 8;
     }
     let value = string_good(&b[4..]);
@@ -87,7 +86,7 @@ pub fn layer_fault(b: &[u8], fl: u8) -> u8
     requires { ⌜ Body (now b) ⌝ }
     ensures { λ r. ⌜ r ≡ bodyFault KLayer fl (now (b .entry)) ⌝ }
 {
-    if b.len() + HEADER < Layer::MIN_SIZE {
+    if b.len() + Kind::HEADER_SIZE < Layer::MIN_SIZE {
         return 8;
     }
     let name = optional_good(&b[4..]);
@@ -137,10 +136,10 @@ pub fn wire_fault(b: &[u8], fl: u8) -> u8
     ensures { λ r. ⌜ r ≡ bodyFault KWire fl (now (b .entry)) ⌝ }
 {
     // The width stands before the pairs.
-    if b.len() < 4 {
+    if b.len() < Wire::WIDTH_SIZE {
         return 8;
     }
-    let n = b.len() - 4;
+    let n = b.len() - Wire::WIDTH_SIZE;
     if n % Wire::PAIR_SIZE != 0 {
         return 8;
     }
@@ -158,7 +157,7 @@ pub fn text_fault(b: &[u8], fl: u8) -> u8
     requires { ⌜ Body (now b) ⌝ }
     ensures { λ r. ⌜ r ≡ bodyFault KText fl (now (b .entry)) ⌝ }
 {
-    if b.len() + HEADER < Text::MIN_SIZE {
+    if b.len() + Kind::HEADER_SIZE < Text::MIN_SIZE {
         return 8;
     }
     let label = string_good(&b[12..]);
@@ -172,9 +171,9 @@ pub fn sref_fault(b: &[u8], fl: u8) -> u8
     let angle = fl % 2 == 1;
     let magnif = fl / 2 % 2 == 1;
     let array = fl / 8 % 2 == 1;
-    let magnif_at = after(angle, 8, 8);
-    let grid_at = after(magnif, magnif_at, 8);
-    let name_at = after(array, grid_at, 24);
+    let magnif_at = after(angle, Sref::POINT_SIZE, Sref::REAL_SIZE);
+    let grid_at = after(magnif, magnif_at, Sref::REAL_SIZE);
+    let name_at = after(array, grid_at, Sref::ARRAY_SIZE);
     if b.len() < name_at + Sref::MIN_NAME {
         return 8;
     }
@@ -188,7 +187,11 @@ pub fn endlib_fault(b: &[u8], fl: u8) -> u8
     requires { ⌜ Body (now b) ⌝ }
     ensures { λ r. ⌜ r ≡ bodyFault KEndlib fl (now (b .entry)) ⌝ }
 {
-    if b.len() == 0 { 0 } else { 8 }
+    if b.len() + Kind::HEADER_SIZE == Endlib::SIZE {
+        0
+    } else {
+        8
+    }
 }
 
 // ---- what they share
@@ -225,7 +228,7 @@ fn magnif_good(b: &[u8], at: usize, stands: bool) -> bool
     ensures { λ r. ⌜ r ≡ (not stands || positiveReal (take 8 (drop at (now (b .entry))))) ⌝ }
 {
     if stands {
-        let end = at + 8;
+        let end = at + Sref::REAL_SIZE;
         return positive_bytes(&b[at..end]);
     }
     true

@@ -10,6 +10,8 @@ ghost use Rattle.cgx_spec.specs.Kinds.{kindOf};
 ghost use Rattle.cgx_extent.specs.Extent.{shareOf, pairs, minZ, maxZ, wider as widerBy, widest, answerOn, extentOf};
 ghost use Rattle.cgx_extent.specs.Search.{shareIf, hullFrom, entered as enteredAt, after, foundIn};
 use cgx_kinds::Point;
+use cgx_kinds::Poly;
+use cgx_kinds::Wire;
 use cgx_numbers::long_at;
 use cgx_phases::Phase;
 use cgx_phases::fault_behind;
@@ -174,7 +176,7 @@ fn share_in(k: Kind) -> Share
         Kind::Layer => Share::Neither,
         Kind::Box => Share::Points(0),
         Kind::Poly => Share::Points(0),
-        Kind::Wire => Share::Points(4),
+        Kind::Wire => Share::Points(Wire::WIDTH_SIZE),
         Kind::Text => Share::Neither,
         Kind::Sref => Share::Neither,
         Kind::Endlib => Share::Neither,
@@ -188,7 +190,7 @@ fn grown(r: Rectangle, b: &[u8], from: usize) -> Rectangle
     requires { ⌜ (length (now b) ≤ 65530) × (from ≤ 65530) ⌝ }
     ensures { λ g. ⌜ g ≡ hullFrom r (pairs (longsOf (drop from (now (b .entry))))) ⌝ }
 {
-    if b.len() < from + 8 {
+    if b.len() < from + Poly::PAIR_SIZE {
         return r;
     }
     match r {
@@ -201,7 +203,7 @@ fn grown(r: Rectangle, b: &[u8], from: usize) -> Rectangle
                 right: x,
                 top: y,
             };
-            Rectangle::Of(around(first, b, from + 8))
+            Rectangle::Of(around(first, b, from + Poly::PAIR_SIZE))
         }
         Rectangle::Of(s) => Rectangle::Of(around(s, b, from)),
     }
@@ -214,11 +216,11 @@ fn around(s: Sides, b: &[u8], from: usize) -> Sides
 {
     let mut sides = s;
     let mut at = from;
-    while at + 8 <= b.len() {
+    while at + Poly::PAIR_SIZE <= b.len() {
         let x = long_at(b, at);
         let y = long_at(b, at + 4);
         sides = wider(sides, Point { x, y });
-        at += 8;
+        at += Poly::PAIR_SIZE;
     }
     sides
 }

@@ -10,6 +10,8 @@ ghost use Rattle.cgx_spec.specs.Dates.{within, goodDate};
 ghost use Rattle.cgx_spec.specs.Strings.{same, goodString};
 ghost use Rattle.cgx_spec.specs.Fields.{closed, optional, ones, inOrder, passes, good};
 ghost use Rattle.cgx_fields.specs.Zeros.{noZero};
+use cgx_kinds::Boxes;
+use cgx_kinds::Poly;
 use cgx_numbers::long_at;
 use cgx_numbers::word_of;
 
@@ -55,7 +57,7 @@ pub fn boxes_good(b: &[u8]) -> bool
     let mut at = 0;
     while at < b.len() {
         all = all & box_good(b, at);
-        at += 16;
+        at += Boxes::BOX_SIZE;
     }
     all
 }
@@ -155,8 +157,8 @@ pub fn closed_good(b: &[u8]) -> bool
     requires { ⌜ 8 ≤ length (now b) ⌝ }
     ensures { λ r. ⌜ r ≡ passes closed (now (b .entry)) ⌝ }
 {
-    let last = b.len() - 8;
-    same_point(&b[0..8], &b[last..])
+    let last = b.len() - Poly::PAIR_SIZE;
+    same_point(&b[0..Poly::PAIR_SIZE], &b[last..])
 }
 
 fn same_point(a: &[u8], b: &[u8]) -> bool

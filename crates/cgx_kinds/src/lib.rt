@@ -148,8 +148,9 @@ pub struct View {
     pub run: Run,
 }
 
-// ---- limits: sizes include the four bytes of the header
+// ---- limits: sizes include the header, whose size and the size that no record passes are constants of `Kind`
 
+// Of a kind that ends in a text the smallest record has the empty text, which takes two bytes.
 impl Library {
     pub const MIN_SIZE: usize = 38;
 }
@@ -167,11 +168,21 @@ impl Property {
 }
 
 impl Layer {
+    // Without a name.
     pub const MIN_SIZE: usize = 8;
+
+    // With one.
+    pub const MIN_NAMED_SIZE: usize = 10;
 }
 
 impl Boxes {
+    // The bytes before the first box.
+    pub const BASE_SIZE: usize = Kind::HEADER_SIZE;
+
+    // A box has so many bytes, and so many longs: left, bottom, right, top.
     pub const BOX_SIZE: usize = 16;
+
+    pub const BOX_LONGS: usize = 4;
 
     pub const MIN_COUNT: usize = 1;
 
@@ -179,7 +190,13 @@ impl Boxes {
 }
 
 impl Poly {
+    // The bytes before the first pair.
+    pub const BASE_SIZE: usize = Kind::HEADER_SIZE;
+
+    // A pair has so many bytes, and so many longs: x, y.
     pub const PAIR_SIZE: usize = 8;
+
+    pub const PAIR_LONGS: usize = 2;
 
     pub const MIN_COUNT: usize = 4;
 
@@ -187,7 +204,15 @@ impl Poly {
 }
 
 impl Wire {
+    pub const WIDTH_SIZE: usize = 4;
+
+    // The bytes before the first pair.
+    pub const BASE_SIZE: usize = Kind::HEADER_SIZE + Wire::WIDTH_SIZE;
+
+    // A pair has so many bytes, and so many longs: x, y.
     pub const PAIR_SIZE: usize = 8;
+
+    pub const PAIR_LONGS: usize = 2;
 
     pub const MIN_COUNT: usize = 1;
 
@@ -201,8 +226,26 @@ impl Text {
 }
 
 impl Sref {
-    // The bytes of its name; the fields before it depend on its flags.
+    // Without angle, magnif and array.
+    pub const MIN_SIZE: usize = Kind::HEADER_SIZE + Sref::POINT_SIZE + Sref::MIN_NAME;
+
+    // x and y, which every SREF has.
+    pub const POINT_SIZE: usize = 8;
+
+    // An angle or a magnif.
+    pub const REAL_SIZE: usize = 8;
+
+    // Columns, rows and two points.
+    pub const ARRAY_SIZE: usize = 24;
+
     pub const MIN_NAME: usize = 2;
 
     pub const MAX_FLAGS: u8 = 15;
+}
+
+// An ENDLIB has no fields.
+pub struct Endlib;
+
+impl Endlib {
+    pub const SIZE: usize = Kind::HEADER_SIZE;
 }

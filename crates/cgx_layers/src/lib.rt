@@ -6,6 +6,7 @@ ghost use Rattle.cgx_spec.specs.Strings.{textOf};
 ghost use Rattle.cgx_views.specs.Views.{OptionalAt};
 ghost use Rattle.cgx_layers.specs.Layers.{layerAnswer, shownOf, shownText, shownPtr, ShownIn, Stands};
 use cgx_bodies::layer_fault;
+use cgx_kinds::Layer;
 use cgx_steps::Head;
 use cgx_steps::head_at;
 
@@ -48,13 +49,16 @@ pub fn shown_at(file: &[u8], at: usize, substitute: &[u8]) -> Shown
     if size == 0 {
         return Shown::OfSubstitute { len: 0 };
     }
-    let len = name_len(file, at + 8, size - 8);
+    let len = name_len(file, at + Layer::MIN_SIZE, size - Layer::MIN_SIZE);
     if len == 0 {
         return Shown::OfSubstitute {
             len: substitute.len(),
         };
     }
-    Shown::OfFile { at: at + 8, len }
+    Shown::OfFile {
+        at: at + Layer::MIN_SIZE,
+        len,
+    }
 }
 
 // The size of the good LAYER at an offset, or 0. Nothing before the offset is read.

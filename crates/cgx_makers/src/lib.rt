@@ -2,8 +2,13 @@
 ghost use mathlib.Core.Path.{_≡_};
 ghost use Prim.Native.Nat.{_+_, _*_, _≤_};
 ghost use lib.ListN.{length};
+ghost use Rattle.cgx_writing.specs.Writing.{maxSize};
 ghost use Rattle.cgx_makers.specs.Makers.{corners, outline, cardCalls, frameCalls, allIn};
 ghost use Rattle.cgx_makers.specs.Planned.{allPlanned, allStored};
+use cgx_kinds::Layer;
+use cgx_kinds::Text;
+use cgx_kinds::Wire;
+use cgx_numbers::LONG_SIZE;
 use cgx_plans::plan_layer;
 use cgx_plans::plan_text;
 use cgx_plans::plan_wire;
@@ -59,7 +64,7 @@ pub fn caption_frame(
     if fault != 0 {
         return refusal_at(fault, at, place);
     }
-    let next = place_after(behind, Kind::Text, 18 + label.len() / 2 * 2);
+    let next = place_after(behind, Kind::Text, Text::MIN_SIZE + label.len() / 2 * 2);
     store_outline(buf, place, &corners);
     store_text(buf, at, 0, left, bottom, WIDTH, label);
     Answer::Taken(next)
@@ -97,20 +102,20 @@ fn plan_outline(room: usize, place: Place, points: &[i32]) -> Answer
     if fault != 0 {
         return refusal_at(fault, at, place);
     }
-    let next = place_after(place, Kind::Layer, 8);
+    let next = place_after(place, Kind::Layer, Layer::MIN_SIZE);
     let to = next.at;
     let fault = plan_wire(room, next, EndStyle::Unstated, points);
     if fault != 0 {
         return refusal_at(fault, to, place);
     }
-    Answer::Taken(place_after(next, Kind::Wire, 8 + 4 * points.len()))
+    Answer::Taken(place_after(next, Kind::Wire, Wire::BASE_SIZE + LONG_SIZE * points.len()))
 }
 
 fn store_outline(buf: &mut [u8], place: Place, points: &[i32])
-    requires { ⌜ (place .at + (16 + 4 * length (now points)) ≤ length (now buf)) × (8 + 4 * length (now points) ≤ 65534) ⌝ }
+    requires { ⌜ (place .at + (16 + 4 * length (now points)) ≤ length (now buf)) × (8 + 4 * length (now points) ≤ maxSize) ⌝ }
     ensures { λ _. ⌜ now (buf .exit) ≡ allStored (now (buf .entry)) place (outline (now (points .entry))) ⌝ }
 {
     let at = place.at;
     store_layer(buf, at, 1, 0);
-    store_wire(buf, at + 8, EndStyle::Unstated, WIDTH, points);
+    store_wire(buf, at + Layer::MIN_SIZE, EndStyle::Unstated, WIDTH, points);
 }

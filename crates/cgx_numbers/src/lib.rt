@@ -6,6 +6,9 @@ ghost use Prim.Native.Nat.{_+_, _^_, _≤_};
 ghost use lib.ListN.{length, take, drop};
 ghost use Rattle.cgx_spec.specs.Numbers.{number, digits, twos, untwos, shortOf, longOf, shortBytes, longBytes};
 
+// The bytes of a long.
+pub const LONG_SIZE: usize = 4;
+
 // ---- from bytes that are in hand
 
 // Only a record's size is unsigned.

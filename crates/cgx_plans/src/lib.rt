@@ -14,14 +14,19 @@ ghost use Rattle.cgx_plans.specs.Plans.{Each, checked, textFault, givenF
 ghost use Rattle.cgx_plans.specs.Srefs.{Turned, scaleGood, gridGood};
 use cgx_fields::date_good;
 use cgx_fields::no_zero;
+use cgx_kinds::Boxes;
 use cgx_kinds::Cprpty;
 use cgx_kinds::Date;
+use cgx_kinds::Endlib;
+use cgx_kinds::Layer;
 use cgx_kinds::Library;
 use cgx_kinds::Poly;
 use cgx_kinds::Property;
 use cgx_kinds::Sref;
 use cgx_kinds::Struct;
+use cgx_kinds::Text;
 use cgx_kinds::Wire;
+use cgx_numbers::LONG_SIZE;
 use cgx_numbers::WordBytes;
 use cgx_places::is_forged;
 use cgx_reals::positive_bytes;
@@ -32,9 +37,6 @@ use cgx_writing::EndStyle;
 use cgx_writing::Grid;
 use cgx_writing::date_bytes;
 use cgx_writing::sref_size;
-
-// The most bytes that a record may have.
-const MAX_SIZE: usize = 65534;
 
 // LIBRARY, STRUCT, CPRPTY and PROPERTY end in a text: their smallest size has the empty one, and each whole pair of bytes adds two.
 pub fn plan_library(
@@ -104,7 +106,7 @@ pub fn plan_property(room: usize, p: Place, value: &[u8]) -> u8
 pub fn plan_layer(room: usize, p: Place) -> u8
     ensures { λ r. ⌜ Each (λ n. Each (λ d. r ≡ planned room p (givenLayer (record { 0 = n }) (record { 0 = d }) none))) ⌝ }
 {
-    checks(room, p, Kind::Layer, 0, 8)
+    checks(room, p, Kind::Layer, 0, Layer::MIN_SIZE)
 }
 
 pub fn plan_named(room: usize, p: Place, name: &[u8]) -> u8
@@ -115,14 +117,20 @@ pub fn plan_named(room: usize, p: Place, name: &[u8]) -> u8
         p,
         Kind::Layer,
         text_fault(name),
-        10 + name.len() / 2 * 2,
+        Layer::MIN_NAMED_SIZE + name.len() / 2 * 2,
     )
 }
 
 pub fn plan_box(room: usize, p: Place, sides: &[i32]) -> u8
     ensures { λ r. ⌜ r ≡ planned room p (givenBox (now (sides .entry))) ⌝ }
 {
-    checks(room, p, Kind::Box, box_fault(sides), 4 + 4 * sides.len())
+    checks(
+        room,
+        p,
+        Kind::Box,
+        box_fault(sides),
+        Boxes::BASE_SIZE + LONG_SIZE * sides.len(),
+    )
 }
 
 pub fn plan_poly(room: usize, p: Place, points: &[i32]) -> u8
@@ -133,7 +141,7 @@ pub fn plan_poly(room: usize, p: Place, points: &[i32]) -> u8
         p,
         Kind::Poly,
         poly_fault(points),
-        4 + 4 * points.len(),
+        Poly::BASE_SIZE + LONG_SIZE * points.len(),
     )
 }
 
@@ -145,7 +153,7 @@ pub fn plan_wire(room: usize, p: Place, style: EndStyle, points: &[i32]) -> u8
         p,
         Kind::Wire,
         wire_fault(style, points),
-        8 + 4 * points.len(),
+        Wire::BASE_SIZE + LONG_SIZE * points.len(),
     )
 }
 
@@ -157,7 +165,7 @@ pub fn plan_text(room: usize, p: Place, flags: u8, label: &[u8]) -> u8
         p,
         Kind::Text,
         text_fault(label),
-        18 + label.len() / 2 * 2,
+        Text::MIN_SIZE + label.len() / 2 * 2,
     )
 }
 
@@ -176,7 +184,7 @@ pub fn plan_sref(room: usize, p: Place, flags: u8, magnif: &[u8; 8], grid: Grid,
 pub fn plan_endlib(room: usize, p: Place) -> u8
     ensures { λ r. ⌜ r ≡ planned room p givenEndlib ⌝ }
 {
-    checks(room, p, Kind::Endlib, 0, 4)
+    checks(room, p, Kind::Endlib, 0, Endlib::SIZE)
 }
 
 // ---- the order of the checks
@@ -198,7 +206,7 @@ fn checks(room: usize, p: Place, k: Kind, fault: u8, size: usize) -> u8
     if fault != 0 {
         return fault;
     }
-    if MAX_SIZE < size {
+    if Kind::MAX_SIZE < size {
         return 15;
     }
     let at = p.at;
@@ -245,10 +253,10 @@ fn scales_fault(munit: WordBytes, uunit: WordBytes) -> u8
 fn box_fault(sides: &[i32]) -> u8
     ensures { λ r. ⌜ r ≡ givenFault (givenBox (now (sides .entry))) ⌝ }
 {
-    if sides.len() % 4 != 0 {
+    if sides.len() % Boxes::BOX_LONGS != 0 {
         return 8;
     }
-    if sides.len() < 4 {
+    if sides.len() < Boxes::MIN_COUNT * Boxes::BOX_LONGS {
         return 8;
     }
     if boxes_good(sides) { 0 } else { 10 }
@@ -263,7 +271,7 @@ fn boxes_good(sides: &[i32]) -> bool
     let mut i = 0;
     while i < sides.len() {
         all = all & box_good(sides[i], sides[i + 1], sides[i + 2], sides[i + 3]);
-        i += 4;
+        i += Boxes::BOX_LONGS;
     }
     all
 }
@@ -278,10 +286,10 @@ fn box_good(left: i32, bottom: i32, right: i32, top: i32) -> bool
 fn poly_fault(points: &[i32]) -> u8
     ensures { λ r. ⌜ r ≡ givenFault (givenPoly (now (points .entry))) ⌝ }
 {
-    if points.len() % 2 != 0 {
+    if points.len() % Poly::PAIR_LONGS != 0 {
         return 8;
     }
-    if points.len() < 2 * Poly::MIN_COUNT {
+    if points.len() < Poly::MIN_COUNT * Poly::PAIR_LONGS {
         return 8;
     }
     if is_closed(points) { 0 } else { 12 }
@@ -292,7 +300,7 @@ fn is_closed(points: &[i32]) -> bool
     requires { ⌜ 2 ≤ length (now points) ⌝ }
     ensures { λ r. ⌜ r ≡ meets closed (now (points .entry)) ⌝ }
 {
-    let last = points.len() - 2;
+    let last = points.len() - Poly::PAIR_LONGS;
     let x = same_long(points[0], points[last]);
     let y = same_long(points[1], points[last + 1]);
     x & y
@@ -313,10 +321,10 @@ fn wire_fault(style: EndStyle, points: &[i32]) -> u8
     if Wire::MAX_FLAGS < flags {
         return 7;
     }
-    if points.len() % 2 != 0 {
+    if points.len() % Wire::PAIR_LONGS != 0 {
         return 8;
     }
-    if points.len() < 2 {
+    if points.len() < Wire::MIN_COUNT * Wire::PAIR_LONGS {
         return 8;
     }
     0

@@ -17,6 +17,15 @@ pub enum Kind {
     Endlib,
 }
 
+// The limits that every kind shares; those of each kind are constants of its own struct, in `cgx_kinds`.
+impl Kind {
+    // Size, type and flags: no record is shorter.
+    pub const HEADER_SIZE: usize = 4;
+
+    // No record is longer, its header included.
+    pub const MAX_SIZE: usize = 65534;
+}
+
 // An offset in a file, or none.
 pub enum Offset {
     Nowhere,

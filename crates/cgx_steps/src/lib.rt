@@ -13,6 +13,7 @@ use cgx_records::kind_of;
 use cgx_records::next_context;
 use cgx_records::record_fault;
 use cgx_spec::Context;
+use cgx_spec::Kind;
 use cgx_spec::Verdict;
 
 // What the first four bytes of a record say: refusal 3, 4 or 5, or the record's size.
@@ -57,14 +58,14 @@ pub fn head_at(s: &[u8], at: usize) -> Head
     if left == 0 {
         return Head::Bad(3);
     }
-    if left < 4 {
+    if left < Kind::HEADER_SIZE {
         return Head::Bad(4);
     }
     let size = unsigned_at(s, at) as usize;
     if size % 2 == 1 {
         return Head::Bad(5);
     }
-    if size < 4 {
+    if size < Kind::HEADER_SIZE {
         return Head::Bad(5);
     }
     if left < size {

@@ -9,12 +9,21 @@ ghost use Rattle.cgx_spec.specs.Records.{bytesOf};
 ghost use Rattle.cgx_put.specs.Put.{put};
 ghost use Rattle.cgx_writing.specs.Given.{dateBytes, written, givenLibrary, givenStruct, givenCprpty, givenProperty, givenLayer, givenBox, givenPoly, givenWire, givenText, givenSref, givenEndlib};
 ghost use Rattle.cgx_writing.specs.Srefs.{realIf, gridIf, widthIf, srefSize};
+ghost use Rattle.cgx_writing.specs.Writing.{maxSize};
 use cgx_copy::flags_meant;
+use cgx_kinds::Boxes;
 use cgx_kinds::Cprpty;
 use cgx_kinds::Date;
+use cgx_kinds::Endlib;
+use cgx_kinds::Layer;
 use cgx_kinds::Library;
+use cgx_kinds::Poly;
 use cgx_kinds::Property;
+use cgx_kinds::Sref;
 use cgx_kinds::Struct;
+use cgx_kinds::Text;
+use cgx_kinds::Wire;
+use cgx_numbers::LONG_SIZE;
 use cgx_numbers::WordBytes;
 use cgx_put::put_bytes;
 use cgx_put::put_long;
@@ -38,7 +47,7 @@ pub fn store_library(
     modified: Date,
     name: &[u8],
 )
-    requires { ⌜ (at + (38 + length (now name) / 2 * 2) ≤ length (now buf)) × (38 + length (now name) / 2 * 2 ≤ 65534) ⌝ }
+    requires { ⌜ (at + (38 + length (now name) / 2 * 2) ≤ length (now buf)) × (38 + length (now name) / 2 * 2 ≤ maxSize) ⌝ }
     ensures { λ _. ⌜ now (buf .exit) ≡ put (now (buf .entry)) at (bytesOf (written (givenLibrary version munit uunit created modified (now (name .entry))))) ⌝ }
 {
     put_header(
@@ -56,7 +65,7 @@ pub fn store_library(
 }
 
 pub fn store_struct(buf: &mut [u8], at: usize, created: Date, modified: Date, name: &[u8])
-    requires { ⌜ (at + (22 + length (now name) / 2 * 2) ≤ length (now buf)) × (22 + length (now name) / 2 * 2 ≤ 65534) ⌝ }
+    requires { ⌜ (at + (22 + length (now name) / 2 * 2) ≤ length (now buf)) × (22 + length (now name) / 2 * 2 ≤ maxSize) ⌝ }
     ensures { λ _. ⌜ now (buf .exit) ≡ put (now (buf .entry)) at (bytesOf (written (givenStruct created modified (now (name .entry))))) ⌝ }
 {
     put_header(
@@ -72,7 +81,7 @@ pub fn store_struct(buf: &mut [u8], at: usize, created: Date, modified: Date, na
 }
 
 pub fn store_cprpty(buf: &mut [u8], at: usize, number: i32, value: &[u8])
-    requires { ⌜ (at + (10 + length (now value) / 2 * 2) ≤ length (now buf)) × (10 + length (now value) / 2 * 2 ≤ 65534) ⌝ }
+    requires { ⌜ (at + (10 + length (now value) / 2 * 2) ≤ length (now buf)) × (10 + length (now value) / 2 * 2 ≤ maxSize) ⌝ }
     ensures { λ _. ⌜ now (buf .exit) ≡ put (now (buf .entry)) at (bytesOf (written (givenCprpty number (now (value .entry))))) ⌝ }
 {
     put_header(
@@ -87,7 +96,7 @@ pub fn store_cprpty(buf: &mut [u8], at: usize, number: i32, value: &[u8])
 }
 
 pub fn store_property(buf: &mut [u8], at: usize, number: i32, value: &[u8])
-    requires { ⌜ (at + (10 + length (now value) / 2 * 2) ≤ length (now buf)) × (10 + length (now value) / 2 * 2 ≤ 65534) ⌝ }
+    requires { ⌜ (at + (10 + length (now value) / 2 * 2) ≤ length (now buf)) × (10 + length (now value) / 2 * 2 ≤ maxSize) ⌝ }
     ensures { λ _. ⌜ now (buf .exit) ≡ put (now (buf .entry)) at (bytesOf (written (givenProperty number (now (value .entry))))) ⌝ }
 {
     put_header(
@@ -105,54 +114,78 @@ pub fn store_layer(buf: &mut [u8], at: usize, number: i16, datatype: i16)
     requires { ⌜ at + 8 ≤ length (now buf) ⌝ }
     ensures { λ _. ⌜ now (buf .exit) ≡ put (now (buf .entry)) at (bytesOf (written (givenLayer (record { 0 = number }) (record { 0 = datatype }) none))) ⌝ }
 {
-    put_header(buf, at, 8, 4, 0);
+    put_header(buf, at, Layer::MIN_SIZE as u32, 4, 0);
     put_short(buf, at + 4, number);
     put_short(buf, at + 6, datatype);
 }
 
 pub fn store_named(buf: &mut [u8], at: usize, number: i16, datatype: i16, name: &[u8])
-    requires { ⌜ (at + (10 + length (now name) / 2 * 2) ≤ length (now buf)) × (10 + length (now name) / 2 * 2 ≤ 65534) ⌝ }
+    requires { ⌜ (at + (10 + length (now name) / 2 * 2) ≤ length (now buf)) × (10 + length (now name) / 2 * 2 ≤ maxSize) ⌝ }
     ensures { λ _. ⌜ now (buf .exit) ≡ put (now (buf .entry)) at (bytesOf (written (givenLayer (record { 0 = number }) (record { 0 = datatype }) (some (now (name .entry)))))) ⌝ }
 {
-    put_header(buf, at, (10 + name.len() / 2 * 2) as u32, 4, 0);
+    put_header(
+        buf,
+        at,
+        (Layer::MIN_NAMED_SIZE + name.len() / 2 * 2) as u32,
+        4,
+        0,
+    );
     put_short(buf, at + 4, number);
     put_short(buf, at + 6, datatype);
     put_text(buf, at + 8, name);
 }
 
 pub fn store_box(buf: &mut [u8], at: usize, sides: &[i32])
-    requires { ⌜ (at + (4 + 4 * length (now sides)) ≤ length (now buf)) × (4 + 4 * length (now sides) ≤ 65534) ⌝ }
+    requires { ⌜ (at + (4 + 4 * length (now sides)) ≤ length (now buf)) × (4 + 4 * length (now sides) ≤ maxSize) ⌝ }
     ensures { λ _. ⌜ now (buf .exit) ≡ put (now (buf .entry)) at (bytesOf (written (givenBox (now (sides .entry))))) ⌝ }
 {
-    put_header(buf, at, (4 + 4 * sides.len()) as u32, 5, 0);
+    put_header(
+        buf,
+        at,
+        (Boxes::BASE_SIZE + LONG_SIZE * sides.len()) as u32,
+        5,
+        0,
+    );
     put_longs(buf, at + 4, sides);
 }
 
 pub fn store_poly(buf: &mut [u8], at: usize, points: &[i32])
-    requires { ⌜ (at + (4 + 4 * length (now points)) ≤ length (now buf)) × (4 + 4 * length (now points) ≤ 65534) ⌝ }
+    requires { ⌜ (at + (4 + 4 * length (now points)) ≤ length (now buf)) × (4 + 4 * length (now points) ≤ maxSize) ⌝ }
     ensures { λ _. ⌜ now (buf .exit) ≡ put (now (buf .entry)) at (bytesOf (written (givenPoly (now (points .entry))))) ⌝ }
 {
-    put_header(buf, at, (4 + 4 * points.len()) as u32, 6, 0);
+    put_header(
+        buf,
+        at,
+        (Poly::BASE_SIZE + LONG_SIZE * points.len()) as u32,
+        6,
+        0,
+    );
     put_longs(buf, at + 4, points);
 }
 
 pub fn store_wire(buf: &mut [u8], at: usize, style: EndStyle, width: i32, points: &[i32])
-    requires { ⌜ (at + (8 + 4 * length (now points)) ≤ length (now buf)) × (8 + 4 * length (now points) ≤ 65534) ⌝ }
+    requires { ⌜ (at + (8 + 4 * length (now points)) ≤ length (now buf)) × (8 + 4 * length (now points) ≤ maxSize) ⌝ }
     ensures { λ _. ⌜ now (buf .exit) ≡ put (now (buf .entry)) at (bytesOf (written (givenWire style width (now (points .entry))))) ⌝ }
 {
-    put_header(buf, at, (8 + 4 * points.len()) as u32, 7, style.flags());
+    put_header(
+        buf,
+        at,
+        (Wire::BASE_SIZE + LONG_SIZE * points.len()) as u32,
+        7,
+        style.flags(),
+    );
     put_long(buf, at + 4, width);
     put_longs(buf, at + 8, points);
 }
 
 pub fn store_text(buf: &mut [u8], at: usize, flags: u8, x: i32, y: i32, width: i32, label: &[u8])
-    requires { ⌜ (at + (18 + length (now label) / 2 * 2) ≤ length (now buf)) × (18 + length (now label) / 2 * 2 ≤ 65534) ⌝ }
+    requires { ⌜ (at + (18 + length (now label) / 2 * 2) ≤ length (now buf)) × (18 + length (now label) / 2 * 2 ≤ maxSize) ⌝ }
     ensures { λ _. ⌜ now (buf .exit) ≡ put (now (buf .entry)) at (bytesOf (written (givenText flags (record { x = x; y = y }) width (now (label .entry))))) ⌝ }
 {
     put_header(
         buf,
         at,
-        (18 + label.len() / 2 * 2) as u32,
+        (Text::MIN_SIZE + label.len() / 2 * 2) as u32,
         8,
         flags_meant(Kind::Text, flags),
     );
@@ -173,7 +206,7 @@ pub fn store_sref(
     grid: Grid,
     name: &[u8],
 )
-    requires { ⌜ (at + srefSize flags (length (now name)) ≤ length (now buf)) × (srefSize flags (length (now name)) ≤ 65534) ⌝ }
+    requires { ⌜ (at + srefSize flags (length (now name)) ≤ length (now buf)) × (srefSize flags (length (now name)) ≤ maxSize) ⌝ }
     ensures { λ _. ⌜ now (buf .exit) ≡ put (now (buf .entry)) at (bytesOf (written (givenSref flags (record { x = x; y = y }) (now (angle .entry)) (now (magnif .entry)) grid (now (name .entry))))) ⌝ }
 {
     put_header(buf, at, sref_size(flags, name) as u32, 9, flags);
@@ -189,7 +222,7 @@ pub fn store_endlib(buf: &mut [u8], at: usize)
     requires { ⌜ at + 4 ≤ length (now buf) ⌝ }
     ensures { λ _. ⌜ now (buf .exit) ≡ put (now (buf .entry)) at (bytesOf (written givenEndlib)) ⌝ }
 {
-    put_header(buf, at, 4, 10, 0);
+    put_header(buf, at, Endlib::SIZE as u32, 10, 0);
 }
 
 // Size, type and flags of a record.
@@ -227,7 +260,7 @@ fn put_real_if(buf: &mut [u8], at: usize, stands: bool, real: &[u8; 8]) -> usize
     if stands {
         let equal = normal_bytes(real);
         put_bytes(buf, at, &equal);
-        return at + 8;
+        return at + Sref::REAL_SIZE;
     }
     at
 }
@@ -243,7 +276,7 @@ fn put_grid_if(buf: &mut [u8], at: usize, stands: bool, grid: Grid) -> usize
     if stands {
         let longs = [cols, rows, across.x, across.y, up.x, up.y];
         put_longs(buf, at, &longs);
-        return at + 24;
+        return at + Sref::ARRAY_SIZE;
     }
     at
 }

@@ -171,9 +171,9 @@ fn sref_of(f: &[u8], fl: u8, at: usize, size: usize) -> Fields
     let turned = fl % 2 == 1;
     let scaled = fl / 2 % 2 == 1;
     let repeated = fl / 8 % 2 == 1;
-    let second = after(turned, 12, 8);
-    let third = after(scaled, second, 8);
-    let last = after(repeated, third, 24);
+    let second = after(turned, 12, Sref::REAL_SIZE);
+    let third = after(scaled, second, Sref::REAL_SIZE);
+    let last = after(repeated, third, Sref::ARRAY_SIZE);
     let anchor = point_at(f, at + 4);
     let angle = real_if(f, at + 12, turned);
     let magnif = real_if(f, at + second, scaled);

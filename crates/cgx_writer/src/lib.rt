@@ -6,14 +6,21 @@ ghost use Rattle.cgx_spec.specs.Order.{next};
 ghost use Rattle.cgx_records.specs.Faults.{waiting};
 ghost use Rattle.cgx_writing.specs.Given.{givenLibrary, givenStruct, givenCprpty, givenProperty, givenLayer, givenBox, givenPoly, givenWire, givenText, givenSref, givenEndlib};
 ghost use Rattle.cgx_writing.specs.Writing.{startIn, callIn, named};
+use cgx_kinds::Boxes;
 use cgx_kinds::Cprpty;
 use cgx_kinds::DataType;
 use cgx_kinds::Date;
+use cgx_kinds::Endlib;
+use cgx_kinds::Layer;
 use cgx_kinds::LayerNo;
 use cgx_kinds::Library;
 use cgx_kinds::Point;
+use cgx_kinds::Poly;
 use cgx_kinds::Property;
 use cgx_kinds::Struct;
+use cgx_kinds::Text;
+use cgx_kinds::Wire;
+use cgx_numbers::LONG_SIZE;
 use cgx_numbers::WordBytes;
 use cgx_plans::plan_box;
 use cgx_plans::plan_cprpty;
@@ -153,7 +160,7 @@ pub fn layer(buf: &mut [u8], place: Place, number: LayerNo, datatype: DataType) 
     let n = number.0;
     let d = datatype.0;
     store_layer(buf, at, n, d);
-    Answer::Taken(place_after(place, Kind::Layer, 8))
+    Answer::Taken(place_after(place, Kind::Layer, Layer::MIN_SIZE))
 }
 
 // Appends a LAYER with a name, which may be empty.
@@ -174,7 +181,11 @@ pub fn named_layer(
     let n = number.0;
     let d = datatype.0;
     store_named(buf, at, n, d, name);
-    Answer::Taken(place_after(place, Kind::Layer, 10 + name.len() / 2 * 2))
+    Answer::Taken(place_after(
+        place,
+        Kind::Layer,
+        Layer::MIN_NAMED_SIZE + name.len() / 2 * 2,
+    ))
 }
 
 // Appends a BOX record: left, bottom, right, top of each box.
@@ -187,7 +198,7 @@ pub fn boxes(buf: &mut [u8], place: Place, sides: &[i32]) -> Answer
     }
     let at = place.at;
     store_box(buf, at, sides);
-    Answer::Taken(place_after(place, Kind::Box, 4 + 4 * sides.len()))
+    Answer::Taken(place_after(place, Kind::Box, Boxes::BASE_SIZE + LONG_SIZE * sides.len()))
 }
 
 // Appends a POLY: x and y of each point, the first again at the end.
@@ -200,7 +211,11 @@ pub fn poly(buf: &mut [u8], place: Place, points: &[i32]) -> Answer
     }
     let at = place.at;
     store_poly(buf, at, points);
-    Answer::Taken(place_after(place, Kind::Poly, 4 + 4 * points.len()))
+    Answer::Taken(place_after(
+        place,
+        Kind::Poly,
+        Poly::BASE_SIZE + LONG_SIZE * points.len(),
+    ))
 }
 
 // Appends a WIRE: x and y of each point.
@@ -213,7 +228,11 @@ pub fn wire(buf: &mut [u8], place: Place, style: EndStyle, width: i32, points: &
     }
     let at = place.at;
     store_wire(buf, at, style, width, points);
-    Answer::Taken(place_after(place, Kind::Wire, 8 + 4 * points.len()))
+    Answer::Taken(place_after(
+        place,
+        Kind::Wire,
+        Wire::BASE_SIZE + LONG_SIZE * points.len(),
+    ))
 }
 
 // Appends a TEXT.
@@ -228,7 +247,7 @@ pub fn text(buf: &mut [u8], place: Place, flags: u8, at: Point, width: i32, labe
     let x = at.x;
     let y = at.y;
     store_text(buf, to, flags, x, y, width, label);
-    Answer::Taken(place_after(place, Kind::Text, 18 + label.len() / 2 * 2))
+    Answer::Taken(place_after(place, Kind::Text, Text::MIN_SIZE + label.len() / 2 * 2))
 }
 
 // Appends an SREF. An angle, a magnif or a grid whose flag is off is ignored.
@@ -265,7 +284,7 @@ pub fn endlib(buf: &mut [u8], place: Place) -> Answer
     }
     let at = place.at;
     store_endlib(buf, at);
-    Answer::Taken(place_after(place, Kind::Endlib, 4))
+    Answer::Taken(place_after(place, Kind::Endlib, Endlib::SIZE))
 }
 
 // ---- answers, of the makers too

@@ -7,6 +7,7 @@ ghost use Rattle.cgx_writing.specs.Given.{dateBytes, styleOf};
 ghost use Rattle.cgx_writing.specs.Srefs.{widthIf, srefSize};
 use cgx_kinds::Date;
 use cgx_kinds::Point;
+use cgx_kinds::Sref;
 use cgx_numbers::WordBytes;
 use cgx_numbers::short_bytes;
 use cgx_spec::Offset;
@@ -85,10 +86,10 @@ pub enum Answer {
 pub fn sref_size(flags: u8, name: &[u8]) -> usize
     ensures { λ r. ⌜ r ≡ srefSize flags (length (now (name .entry))) ⌝ }
 {
-    let angle = width_if(flags % 2 == 1, 8);
-    let magnif = width_if(flags / 2 % 2 == 1, 8);
-    let array = width_if(flags / 8 % 2 == 1, 24);
-    12 + angle + magnif + array + (2 + name.len() / 2 * 2)
+    let angle = width_if(flags % 2 == 1, Sref::REAL_SIZE);
+    let magnif = width_if(flags / 2 % 2 == 1, Sref::REAL_SIZE);
+    let array = width_if(flags / 8 % 2 == 1, Sref::ARRAY_SIZE);
+    Sref::MIN_SIZE + angle + magnif + array + name.len() / 2 * 2
 }
 
 // The bytes of a field that stands only where its flag is set.

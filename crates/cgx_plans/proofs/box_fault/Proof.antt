@@ -9,6 +9,9 @@ use Rattle.cgx_plans.proofs.box_fault.Tie as tie
 returns : tie.Need-returns
 returns c = box-uneven (c .before .args .sides .now) (c .if1 .taken)
 
+mul-if2 : tie.Need-mul-if2
+mul-if2 c = search needs
+
 returns-2 : tie.Need-returns-2
 returns-2 c = box-few (c .before .before .args .sides .now) (c .if2 .taken)
 
@@ -26,4 +29,4 @@ returns-4 c =
     box-is (s .before .args .sides .now) false (s .if1 .left) (c .before .before .if2 .left) (sym (c .before .boxes-good .ensures) ∙ c .if3 .left)
 
 pub box-fault-spec : {M : Type 1} → statement M
-box-fault-spec = tie.close (tie.spec returns returns-2 boxes-good-requires returns-3 returns-4)
+box-fault-spec = tie.close (tie.spec returns mul-if2 returns-2 boxes-good-requires returns-3 returns-4)

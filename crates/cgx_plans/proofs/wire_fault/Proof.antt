@@ -23,6 +23,9 @@ returns-2 c =
     let a = f .before .args in
     wire-is (a .style) w (a .points .now) (f .flags .result) (f .flags .ensures) false (c .before .if1 .left) (pairs-uneven (length (a .points .now)) (c .if2 .taken))
 
+mul-if3 : tie.Need-mul-if3
+mul-if3 c = search needs
+
 returns-3 : tie.Need-returns-3
 returns-3 c =
     λ w.
@@ -38,4 +41,4 @@ returns-4 c =
     wire-is (a .style) w (a .points .now) (f .flags .result) (f .flags .ensures) true (c .before .before .if1 .left) (pairs-enough (length (a .points .now)) (c .before .if2 .left) (c .if3 .left))
 
 pub wire-fault-spec : {M : Type 1} → statement M
-wire-fault-spec = tie.close (tie.spec flags-requires returns returns-2 returns-3 returns-4)
+wire-fault-spec = tie.close (tie.spec flags-requires returns returns-2 mul-if3 returns-3 returns-4)

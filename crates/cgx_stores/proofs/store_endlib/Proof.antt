@@ -5,6 +5,9 @@ use borrow.Author.Needs.{needs}
 use Rattle.cgx_stores.proofs.store_endlib.Statement.{statement}
 use Rattle.cgx_stores.proofs.store_endlib.Tie as tie
 
+cast-put-header : tie.Need-cast-put-header
+cast-put-header c = search needs
+
 put-header-requires : tie.Need-put-header-requires
 put-header-requires c κs = search needs
 
@@ -18,4 +21,4 @@ returns c =
     f .put-header .ensures ∙ endlib-store (a .buf .now) (a .at)
 
 pub store-endlib-spec : {M : Type 1} → statement M
-store-endlib-spec = tie.close (tie.spec put-header-requires same-length returns)
+store-endlib-spec = tie.close (tie.spec cast-put-header put-header-requires same-length returns)

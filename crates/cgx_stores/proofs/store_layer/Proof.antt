@@ -12,6 +12,9 @@ use borrow.Author.Needs.{needs}
 use Rattle.cgx_stores.proofs.store_layer.Statement.{statement}
 use Rattle.cgx_stores.proofs.store_layer.Tie as tie
 
+cast-put-header : tie.Need-cast-put-header
+cast-put-header c = search needs
+
 put-header-requires : tie.Need-put-header-requires
 put-header-requires c κs = search needs
 
@@ -47,6 +50,7 @@ pub store-layer-spec : {M : Type 1} → statement M
 store-layer-spec =
     tie.close
     (tie.spec
+    cast-put-header
     put-header-requires
     add-put-short
     put-short-requires

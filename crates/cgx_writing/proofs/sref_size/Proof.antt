@@ -1,4 +1,5 @@
 -- The widths by the flags, summed.
+use native.Mathlib.Omega.{arith}
 use Rattle.cgx_writing.specs.Srefs.{srefSize}
 use borrow.Author.Needs.{needs}
 use Rattle.cgx_writing.proofs.sref_size.Statement.{statement}
@@ -28,12 +29,9 @@ mul-result c = search needs
 add-result-4 : tie.Need-add-result-4
 add-result-4 c = search needs
 
-add-result-5 : tie.Need-add-result-5
-add-result-5 c = search needs
-
 returns : tie.Need-returns
 unfolding srefSize
-returns c = rw (c .before .before .width-if .ensures .0, c .before .width-if2 .ensures .0, c .width-if3 .ensures .0)
+returns c = omega (arith, c .before .before .width-if .ensures .0, c .before .width-if2 .ensures .0, c .width-if3 .ensures .0)
 
 pub sref-size-spec : {M : Type 1} → statement M
 sref-size-spec =
@@ -47,5 +45,4 @@ sref-size-spec =
     add-result-3
     mul-result
     add-result-4
-    add-result-5
     returns)
