@@ -5,7 +5,9 @@ ghost use lib.ListN.{length};
 ghost use Rattle.cgx_writing.specs.Writing.{maxSize};
 ghost use Rattle.cgx_makers.specs.Makers.{corners, outline, cardCalls, frameCalls, allIn};
 ghost use Rattle.cgx_makers.specs.Planned.{allPlanned, allStored};
+use cgx_kinds::DataType;
 use cgx_kinds::Layer;
+use cgx_kinds::LayerNo;
 use cgx_kinds::Text;
 use cgx_kinds::Wire;
 use cgx_numbers::LONG_SIZE;
@@ -116,6 +118,6 @@ fn store_outline(buf: &mut [u8], place: Place, points: &[i32])
     ensures { λ _. ⌜ now (buf .exit) ≡ allStored (now (buf .entry)) place (outline (now (points .entry))) ⌝ }
 {
     let at = place.at;
-    store_layer(buf, at, 1, 0);
+    store_layer(buf, at, LayerNo(1), DataType(0));
     store_wire(buf, at + Layer::MIN_SIZE, EndStyle::Unstated, WIDTH, points);
 }

@@ -13,12 +13,18 @@ use Rattle.cgx_spec.specs.Order.{allowed}
 use Rattle.cgx_spec.specs.Records.{broken, rule}
 use Rattle.cgx_spec.specs.Walking.{forged}
 use Rattle.cgx_bodies.specs.Bodies.{numberOr0}
+use Rattle.cgx_kinds.specs.declared.LayerNo.{LayerNo}
+use Rattle.cgx_kinds.specs.declared.DataType.{DataType}
 use Rattle.cgx_writing.specs.Given.{noZero, Given, enoughGiven, keepsGiven}
 use Rattle.cgx_writing.specs.Writing.{maxSize, checks}
 
 -- For every number: what a plan does not look at.
 abbrev pub Each : (ℤ → Type 0) → Type 0
 Each P = (z : ℤ) → P z
+
+-- For every layer number and every data type.
+abbrev pub EachLayer : (LayerNo → DataType → Type 0) → Type 0
+EachLayer P = (n : LayerNo) (d : DataType) → P n d
 
 -- The number of the refusal of a call into a buffer of n bytes, or 0.
 unfoldable pub planned : ℕ → Place → Given → ℕ

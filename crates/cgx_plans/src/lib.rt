@@ -10,7 +10,7 @@ ghost use Rattle.cgx_spec.specs.Reals.{positiveReal};
 ghost use Rattle.cgx_spec.specs.Dates.{calendar};
 ghost use Rattle.cgx_spec.specs.Fields.{inOrder, closed};
 ghost use Rattle.cgx_writing.specs.Given.{dateBytes, meets, givenLibrary, givenStruct, givenCprpty, givenProperty, givenLayer, givenBox, givenPoly, givenWire, givenText, givenSref, givenEndlib};
-ghost use Rattle.cgx_plans.specs.Plans.{Each, checked, textFault, givenFault, planned};
+ghost use Rattle.cgx_plans.specs.Plans.{Each, EachLayer, checked, textFault, givenFault, planned};
 ghost use Rattle.cgx_plans.specs.Srefs.{Turned, scaleGood, gridGood};
 use cgx_fields::date_good;
 use cgx_fields::no_zero;
@@ -104,13 +104,13 @@ pub fn plan_property(room: usize, p: Place, value: &[u8]) -> u8
 }
 
 pub fn plan_layer(room: usize, p: Place) -> u8
-    ensures { λ r. ⌜ Each (λ n. Each (λ d. r ≡ planned room p (givenLayer (record { 0 = n }) (record { 0 = d }) none))) ⌝ }
+    ensures { λ r. ⌜ EachLayer (λ n d. r ≡ planned room p (givenLayer n d none)) ⌝ }
 {
     checks(room, p, Kind::Layer, 0, Layer::MIN_SIZE)
 }
 
 pub fn plan_named(room: usize, p: Place, name: &[u8]) -> u8
-    ensures { λ r. ⌜ Each (λ n. Each (λ d. r ≡ planned room p (givenLayer (record { 0 = n }) (record { 0 = d }) (some (now (name .entry)))))) ⌝ }
+    ensures { λ r. ⌜ EachLayer (λ n d. r ≡ planned room p (givenLayer n d (some (now (name .entry))))) ⌝ }
 {
     checks(
         room,

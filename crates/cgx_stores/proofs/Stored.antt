@@ -27,11 +27,9 @@ heads size kind flags = size / 256 ∷ size % 256 ∷ kind ∷ flags ∷ []
 -- ---- LAYER without a name
 
 module _ (n : LayerNo) (d : DataType) where
-  pub layer-store : (l : List ℕ) (at : ℕ) → put (put (put l at (heads 8 4 0)) (at + 4) (shortBytes (n .0))) (at + 6) (shortBytes (d .0)) ≡ put l at (bytesOf (written (givenLayer n d none)))
+  pub layer-store : (l : List ℕ) (at : ℕ) → put (put l at (heads 8 4 0)) (at + 4) (shortBytes (n .0) ++ shortBytes (d .0)) ≡ put l at (bytesOf (written (givenLayer n d none)))
   unfolding bytesOf written givenLayer stored shortBytes typeByte flagsOf flagsFor meant
-  layer-store l at =
-      ap (λ (x : List ℕ). put x (at + 6) (shortBytes (d .0))) (put-next l at 4 (at + 4) (heads 8 4 0) (shortBytes (n .0)) refl refl)
-      ∙ put-next l at 6 (at + 6) (heads 8 4 0 ++ shortBytes (n .0)) (shortBytes (d .0)) refl refl
+  layer-store l at = put-next l at 4 (at + 4) (heads 8 4 0) (shortBytes (n .0) ++ shortBytes (d .0)) refl refl
 
 -- ---- BOX
 
@@ -50,16 +48,15 @@ module _ (zs : List ℤ) where
 -- ---- LAYER with a name
 
 module _ (n : LayerNo) (d : DataType) (t : List ℕ) where
-  pub named-store : (l : List ℕ) (at : ℕ) → put (put (put (put l at (heads (10 + length t / 2 * 2) 4 0)) (at + 4) (shortBytes (n .0))) (at + 6) (shortBytes (d .0))) (at + 8) (padded t) ≡ put l at (bytesOf (written (givenLayer n d (some t))))
+  pub named-store : (l : List ℕ) (at : ℕ) → put (put (put l at (heads (10 + length t / 2 * 2) 4 0)) (at + 4) (shortBytes (n .0) ++ shortBytes (d .0))) (at + 8) (padded t) ≡ put l at (bytesOf (written (givenLayer n d (some t))))
   unfolding bytesOf written givenLayer stored shortBytes typeByte flagsOf flagsFor meant
   named-store l at =
       let h = heads (10 + length t / 2 * 2) 4 0 in
       let x = shortBytes (n .0) in
       let y = shortBytes (d .0) in
       let e : 10 + length t / 2 * 2 ≡ 4 + length (x ++ (y ++ (padded t ++ []))) = named-size n d t in
-      ap (λ (m : List ℕ). put (put m (at + 6) y) (at + 8) (padded t)) (put-next l at 4 (at + 4) h x refl refl)
-      ∙ ap (λ (m : List ℕ). put m (at + 8) (padded t)) (put-next l at 6 (at + 6) (h ++ x) y refl refl)
-      ∙ put-next l at 8 (at + 8) ((h ++ x) ++ y) (padded t) refl refl
+      ap (λ (m : List ℕ). put m (at + 8) (padded t)) (put-next l at 4 (at + 4) h (x ++ y) refl refl)
+      ∙ put-next l at 8 (at + 8) (h ++ (x ++ y)) (padded t) refl refl
       ∙ ap (λ (z : List ℕ). put l at (h ++ (x ++ (y ++ z)))) (sym (append-nil (padded t)))
       ∙ ap (λ (k : ℕ). put l at (heads k 4 0 ++ (x ++ (y ++ (padded t ++ []))))) e
 

@@ -1,9 +1,10 @@
 // Stores of a planned record, in normal form. The caller shows that there is room.
 ghost use mathlib.Core.Path.{_≡_};
 ghost use mathlib.Core.Option.{none, some};
-ghost use mathlib.Core.List.{[], _∷_};
+ghost use mathlib.Core.List.{[], _∷_, _++_};
 ghost use Prim.Native.Nat.{_+_, _*_, _/_, _%_, _≤_, _<_};
 ghost use lib.ListN.{length};
+ghost use Rattle.cgx_spec.specs.Numbers.{shortBytes};
 ghost use Rattle.cgx_spec.specs.Reals.{normalReal};
 ghost use Rattle.cgx_spec.specs.Records.{bytesOf};
 ghost use Rattle.cgx_put.specs.Put.{put};
@@ -13,9 +14,11 @@ ghost use Rattle.cgx_writing.specs.Writing.{maxSize};
 use cgx_copy::flags_meant;
 use cgx_kinds::Boxes;
 use cgx_kinds::Cprpty;
+use cgx_kinds::DataType;
 use cgx_kinds::Date;
 use cgx_kinds::Endlib;
 use cgx_kinds::Layer;
+use cgx_kinds::LayerNo;
 use cgx_kinds::Library;
 use cgx_kinds::Poly;
 use cgx_kinds::Property;
@@ -110,18 +113,17 @@ pub fn store_property(buf: &mut [u8], at: usize, number: i32, value: &[u8])
     put_text(buf, at + 8, value);
 }
 
-pub fn store_layer(buf: &mut [u8], at: usize, number: i16, datatype: i16)
+pub fn store_layer(buf: &mut [u8], at: usize, number: LayerNo, datatype: DataType)
     requires { ⌜ at + 8 ≤ length (now buf) ⌝ }
-    ensures { λ _. ⌜ now (buf .exit) ≡ put (now (buf .entry)) at (bytesOf (written (givenLayer (record { 0 = number }) (record { 0 = datatype }) none))) ⌝ }
+    ensures { λ _. ⌜ now (buf .exit) ≡ put (now (buf .entry)) at (bytesOf (written (givenLayer number datatype none))) ⌝ }
 {
     put_header(buf, at, Layer::MIN_SIZE as u32, 4, 0);
-    put_short(buf, at + 4, number);
-    put_short(buf, at + 6, datatype);
+    put_layer_numbers(buf, at + 4, number, datatype);
 }
 
-pub fn store_named(buf: &mut [u8], at: usize, number: i16, datatype: i16, name: &[u8])
+pub fn store_named(buf: &mut [u8], at: usize, number: LayerNo, datatype: DataType, name: &[u8])
     requires { ⌜ (at + (10 + length (now name) / 2 * 2) ≤ length (now buf)) × (10 + length (now name) / 2 * 2 ≤ maxSize) ⌝ }
-    ensures { λ _. ⌜ now (buf .exit) ≡ put (now (buf .entry)) at (bytesOf (written (givenLayer (record { 0 = number }) (record { 0 = datatype }) (some (now (name .entry)))))) ⌝ }
+    ensures { λ _. ⌜ now (buf .exit) ≡ put (now (buf .entry)) at (bytesOf (written (givenLayer number datatype (some (now (name .entry)))))) ⌝ }
 {
     put_header(
         buf,
@@ -130,8 +132,7 @@ pub fn store_named(buf: &mut [u8], at: usize, number: i16, datatype: i16, name: 
         4,
         0,
     );
-    put_short(buf, at + 4, number);
-    put_short(buf, at + 6, datatype);
+    put_layer_numbers(buf, at + 4, number, datatype);
     put_text(buf, at + 8, name);
 }
 
@@ -232,6 +233,15 @@ fn put_header(buf: &mut [u8], at: usize, size: u32, kind: u8, flags: u8)
 {
     let header = [(size / 256) as u8, (size % 256) as u8, kind, flags];
     put_bytes(buf, at, &header);
+}
+
+// The two numbers of a LAYER, which come apart only here.
+fn put_layer_numbers(buf: &mut [u8], at: usize, number: LayerNo, datatype: DataType)
+    requires { ⌜ at + 4 ≤ length (now buf) ⌝ }
+    ensures { λ _. ⌜ now (buf .exit) ≡ put (now (buf .entry)) at (shortBytes (number .0) ++ shortBytes (datatype .0)) ⌝ }
+{
+    put_short(buf, at, number.0);
+    put_short(buf, at + 2, datatype.0);
 }
 
 // The normal real equal to the one given.

@@ -157,9 +157,7 @@ pub fn layer(buf: &mut [u8], place: Place, number: LayerNo, datatype: DataType) 
         return refusal(fault, place);
     }
     let at = place.at;
-    let n = number.0;
-    let d = datatype.0;
-    store_layer(buf, at, n, d);
+    store_layer(buf, at, number, datatype);
     Answer::Taken(place_after(place, Kind::Layer, Layer::MIN_SIZE))
 }
 
@@ -178,9 +176,7 @@ pub fn named_layer(
         return refusal(fault, place);
     }
     let at = place.at;
-    let n = number.0;
-    let d = datatype.0;
-    store_named(buf, at, n, d, name);
+    store_named(buf, at, number, datatype, name);
     Answer::Taken(place_after(
         place,
         Kind::Layer,

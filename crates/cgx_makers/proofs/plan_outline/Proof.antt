@@ -26,13 +26,13 @@ returns : tie.Need-returns
 returns c =
     let f = c .before .before in
     let a = f .before .args in
-    plan-stops (a .room) (a .place) (a .place) card-layer (card-wire (a .points .now) ∷ []) (f .plan-layer .result) (c .refusal-at .result) (f .plan-layer .ensures (pos 1) (pos 0)) (c .before .if1 .taken) (c .refusal-at .ensures)
+    plan-stops (a .room) (a .place) (a .place) card-layer (card-wire (a .points .now) ∷ []) (f .plan-layer .result) (c .refusal-at .result) (f .plan-layer .ensures (record { 0 = pos 1 }) (record { 0 = pos 0 })) (c .before .if1 .taken) (c .refusal-at .ensures)
 
 place-after-requires : tie.Need-place-after-requires
 place-after-requires c κs =
     let f = c .before in
     let a = f .before .args in
-    let h = call-fits (a .room) (a .place) card-layer (f .plan-layer .result) 8 (f .plan-layer .ensures (pos 1) (pos 0)) (c .if1 .left) (layer-size (record { 0 = pos 1 }) (record { 0 = pos 0 })) in
+    let h = call-fits (a .room) (a .place) card-layer (f .plan-layer .result) 8 (f .plan-layer .ensures (record { 0 = pos 1 }) (record { 0 = pos 0 })) (c .if1 .left) (layer-size (record { 0 = pos 1 }) (record { 0 = pos 0 })) in
     (omega (arith, h .room), omega (arith, h .few, h .room))
 
 plan-wire-requires : tie.Need-plan-wire-requires
@@ -49,7 +49,7 @@ returns-2 c =
     let f = i .before in
     let a = f .before .args in
     plan-stops (a .room) (a .place) (b .place-after .result) (card-wire (a .points .now)) [] (w .plan-wire .result) (c .refusal-at2 .result) (w .plan-wire .ensures (pos 2)) (c .before .if2 .taken) (c .refusal-at2 .ensures)
-    ∙ layer-goes (a .room) (a .place) (a .place) (b .place-after .result) (card-wire (a .points .now) ∷ []) (f .plan-layer .result) (f .plan-layer .ensures (pos 1) (pos 0)) (i .if1 .left) (b .place-after .ensures)
+    ∙ layer-goes (a .room) (a .place) (a .place) (b .place-after .result) (card-wire (a .points .now) ∷ []) (f .plan-layer .result) (f .plan-layer .ensures (record { 0 = pos 1 }) (record { 0 = pos 0 })) (i .if1 .left) (b .place-after .ensures)
 
 mul-place-after : tie.Need-mul-place-after
 mul-place-after c = search needs
@@ -74,7 +74,7 @@ returns-3 c =
     let f = i .before in
     let a = f .before .args in
     plan-goes (a .room) (a .place) (b .place-after .result) (card-wire (a .points .now)) [] (w .plan-wire .result) (8 + 4 * length (a .points .now)) (c .place-after2 .result) (w .plan-wire .ensures (pos 2)) (c .before .if2 .left) (wire-size Unstated (pos 2) (a .points .now)) (c .place-after2 .ensures)
-    ∙ layer-goes (a .room) (a .place) (a .place) (b .place-after .result) (card-wire (a .points .now) ∷ []) (f .plan-layer .result) (f .plan-layer .ensures (pos 1) (pos 0)) (i .if1 .left) (b .place-after .ensures)
+    ∙ layer-goes (a .room) (a .place) (a .place) (b .place-after .result) (card-wire (a .points .now) ∷ []) (f .plan-layer .result) (f .plan-layer .ensures (record { 0 = pos 1 }) (record { 0 = pos 0 })) (i .if1 .left) (b .place-after .ensures)
 
 pub plan-outline-spec : {M : Type 1} → statement M
 plan-outline-spec =

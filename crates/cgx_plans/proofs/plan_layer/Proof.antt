@@ -16,8 +16,8 @@ unfolding givenLayer
 returns c =
     λ n d.
     let a = c .before .args in
-    let g = givenLayer (record { 0 = n }) (record { 0 = d }) none in
-    plan-is (a .room) (a .p) g (c .checks .result) 0 8 (c .checks .ensures) (layer-fault (record { 0 = n }) (record { 0 = d })) (layer-size (record { 0 = n }) (record { 0 = d }))
+    let g = givenLayer n d none in
+    plan-is (a .room) (a .p) g (c .checks .result) 0 8 (c .checks .ensures) (layer-fault n d) (layer-size n d)
 
 pub plan-layer-spec : {M : Type 1} → statement M
 plan-layer-spec = tie.close (tie.spec checks-requires returns)

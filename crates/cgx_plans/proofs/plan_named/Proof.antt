@@ -29,7 +29,7 @@ returns c =
     λ n d.
     let a = c .before .before .before .args in
     let t = a .name .now in
-    plan-is (a .room) (a .p) (givenLayer (record { 0 = n }) (record { 0 = d }) (some t)) (c .checks .result) (c .before .text-fault .result) (10 + length t / 2 * 2) (c .checks .ensures) (c .before .text-fault .ensures ∙ named-fault (record { 0 = n }) (record { 0 = d }) t) (named-size (record { 0 = n }) (record { 0 = d }) t)
+    plan-is (a .room) (a .p) (givenLayer n d (some t)) (c .checks .result) (c .before .text-fault .result) (10 + length t / 2 * 2) (c .checks .ensures) (c .before .text-fault .ensures ∙ named-fault n d t) (named-size n d t)
 
 pub plan-named-spec : {M : Type 1} → statement M
 plan-named-spec =

@@ -1,11 +1,8 @@
--- The header, the two numbers and the name, one behind the other, are the bytes of the record.
+-- The header, the two numbers and the name, one after the other, are the bytes of the record.
 use mathlib.Core.Path.{ap, _∙_}
-use mathlib.Core.List.{List}
+use mathlib.Core.List.{List, _++_}
 use Prim.Native.Nat.{ℕ, _+_}
 use native.Mathlib.Omega.{arith}
-use lib.IntN.{ℤ}
-use mir.Syntax.{w16}
-use mir.ValLaws.{toZ-ofZ}
 use Rattle.cgx_spec.specs.Numbers.{shortBytes}
 use Rattle.cgx_spec.specs.Strings.{padded}
 use Rattle.cgx_put.specs.Put.{put}
@@ -27,41 +24,34 @@ cast-put-header c = search needs
 put-header-requires : tie.Need-put-header-requires
 put-header-requires c κs = search needs
 
-add-put-short : tie.Need-add-put-short
-add-put-short c = search needs
+add-put-layer-numbers : tie.Need-add-put-layer-numbers
+add-put-layer-numbers c = search needs
 
-put-short-requires : tie.Need-put-short-requires
-put-short-requires c κs = search needs
-
-add-put-short-2 : tie.Need-add-put-short-2
-add-put-short-2 c = search needs
-
-put-short-requires-2 : tie.Need-put-short-requires-2
-put-short-requires-2 c κs = search needs
+put-layer-numbers-requires : tie.Need-put-layer-numbers-requires
+put-layer-numbers-requires c κs = search needs
 
 add-put-text : tie.Need-add-put-text
 add-put-text c = search needs
 
 put-text-requires : tie.Need-put-text-requires
-put-text-requires c κs = omega (arith, length-padded (c .before .before .before .before .before .before .before .before .before .before .before .before .before .before .before .args .name .now))
+put-text-requires c κs =
+    let f2 = c .before .before .before in
+    let f1 = f2 .before .before .before .before in
+    omega (arith, length-padded (f1 .before .before .before .before .args .name .now))
 
 same-length : tie.Need-same-length
 same-length c = search needs
 
 returns : tie.Need-returns
 returns c =
-    let f4 = c .before .before in
-    let f3 = f4 .before .before .before .before in
+    let f3 = c .before .before in
     let f2 = f3 .before .before .before .before in
     let f1 = f2 .before .before .before .before in
-    let s = f1 .before .before .before .before in
-    let a = s .args in
-    let e2 = f2 .put-short .ensures ∙ ap (λ (z : ℤ). put (f1 .put-header .last .0) (a .at + 4) (shortBytes z)) (toZ-ofZ w16 (a .number) (s .fits .number)) in
-    let e3 = f3 .put-short2 .ensures ∙ ap (λ (z : ℤ). put (f2 .put-short .last .0) (a .at + 6) (shortBytes z)) (toZ-ofZ w16 (a .datatype) (s .fits .datatype)) in
-    f4 .put-text .ensures
+    let a = f1 .before .before .before .before .args in
+    f3 .put-text .ensures
     ∙ ap (λ (m : List ℕ). put m (a .at + 8) (padded (a .name .now)))
-    (e3 ∙ ap (λ (x : List ℕ). put x (a .at + 6) (shortBytes (a .datatype))) (e2 ∙ ap (λ (x : List ℕ). put x (a .at + 4) (shortBytes (a .number))) (f1 .put-header .ensures)))
-    ∙ named-store (record { 0 = a .number }) (record { 0 = a .datatype }) (a .name .now) (a .buf .now) (a .at)
+    (f2 .put-layer-numbers .ensures ∙ ap (λ (x : List ℕ). put x (a .at + 4) (shortBytes (a .number .0) ++ shortBytes (a .datatype .0))) (f1 .put-header .ensures))
+    ∙ named-store (a .number) (a .datatype) (a .name .now) (a .buf .now) (a .at)
 
 pub store-named-spec : {M : Type 1} → statement M
 store-named-spec =
@@ -71,10 +61,8 @@ store-named-spec =
     add-put-header
     cast-put-header
     put-header-requires
-    add-put-short
-    put-short-requires
-    add-put-short-2
-    put-short-requires-2
+    add-put-layer-numbers
+    put-layer-numbers-requires
     add-put-text
     put-text-requires
     same-length

@@ -1,15 +1,8 @@
 -- The plan is the number of the refusal; where it is 0, the store is that of the record.
-use mathlib.Core.Path.{ap, _∙_}
 use mathlib.Core.Option.{none}
 use native.Mathlib.Omega.{arith}
 use lib.ListN.{length}
-use lib.IntN.{ℤ}
-use mir.Syntax.{w16}
-use mir.Val.{toZ, ofZ}
-use mir.ValLaws.{toZ-ofZ}
-use Rattle.cgx_spec.specs.Records.{bytesOf}
-use Rattle.cgx_put.specs.Put.{put}
-use Rattle.cgx_writing.specs.Given.{written, givenLayer}
+use Rattle.cgx_writing.specs.Given.{givenLayer}
 use Rattle.cgx_plans.proofs.Order.{call-refused, call-taken, call-fits}
 use Rattle.cgx_writing.proofs.Sizes.{layer-size}
 use borrow.Author.Needs.{needs}
@@ -26,22 +19,22 @@ returns : tie.Need-returns
 returns c =
     let f = c .before .before in
     let a = f .before .before .args in
-    call-refused (a .buf .now) (a .place) (givenLayer (a .number) (a .datatype) none) (f .plan-layer .result) (c .refusal .result) (c .refusal .ensures) (f .plan-layer .ensures (a .number .0) (a .datatype .0)) (c .before .if1 .taken)
+    call-refused (a .buf .now) (a .place) (givenLayer (a .number) (a .datatype) none) (f .plan-layer .result) (c .refusal .result) (c .refusal .ensures) (f .plan-layer .ensures (a .number) (a .datatype)) (c .before .if1 .taken)
 
 store-layer-requires : tie.Need-store-layer-requires
 store-layer-requires c κs =
-    let i = c .before .before .before in
+    let i = c .before in
     let f = i .before in
     let a = f .before .before .args in
-    let h = call-fits (length (a .buf .now)) (a .place) (givenLayer (a .number) (a .datatype) none) (f .plan-layer .result) (8) (f .plan-layer .ensures (a .number .0) (a .datatype .0)) (i .if1 .left) (layer-size (a .number) (a .datatype)) in
+    let h = call-fits (length (a .buf .now)) (a .place) (givenLayer (a .number) (a .datatype) none) (f .plan-layer .result) (8) (f .plan-layer .ensures (a .number) (a .datatype)) (i .if1 .left) (layer-size (a .number) (a .datatype)) in
     omega (arith, h .small, h .room)
 
 place-after-requires : tie.Need-place-after-requires
 place-after-requires c κs =
-    let i = c .before .before .before .before .before .before in
+    let i = c .before .before .before .before in
     let f = i .before in
     let a = f .before .before .args in
-    let h = call-fits (length (a .buf .now)) (a .place) (givenLayer (a .number) (a .datatype) none) (f .plan-layer .result) (8) (f .plan-layer .ensures (a .number .0) (a .datatype .0)) (i .if1 .left) (layer-size (a .number) (a .datatype)) in
+    let h = call-fits (length (a .buf .now)) (a .place) (givenLayer (a .number) (a .datatype) none) (f .plan-layer .result) (8) (f .plan-layer .ensures (a .number) (a .datatype)) (i .if1 .left) (layer-size (a .number) (a .datatype)) in
     let n = a .buf .now in
     (omega (arith, h .small, h .room), omega (arith, h .few, h .room))
 
@@ -52,13 +45,11 @@ returns-2 : tie.Need-returns-2
 unfolding givenLayer
 returns-2 c =
     let s = c .before .before .before in
-    let i = c .before .before .before .before .before .before .before in
+    let i = s .before .before in
     let f = i .before in
     let a = f .before .before .args in
-    call-taken (a .buf .now) (s .store-layer .last .0) (a .place) (c .place-after .result) (givenLayer (a .number) (a .datatype) none) (f .plan-layer .result) (8) (f .plan-layer .ensures (a .number .0) (a .datatype .0)) (i .if1 .left) (layer-size (a .number) (a .datatype)) (c .place-after .ensures)
-    (s .store-layer .ensures
-    ∙ ap (λ (z : ℤ). put (a .buf .now) (a .place .at) (bytesOf (written (givenLayer (record { 0 = z }) (record { 0 = toZ w16 (ofZ w16 (a .datatype .0)) }) none)))) (toZ-ofZ w16 (a .number .0) (record { sfits = c .before .before .before .before .before .before .struct-told .given .0 .1 }))
-    ∙ ap (λ (z : ℤ). put (a .buf .now) (a .place .at) (bytesOf (written (givenLayer (a .number) (record { 0 = z }) none)))) (toZ-ofZ w16 (a .datatype .0) (record { sfits = c .before .before .before .before .before .struct-told2 .given .0 .1 })))
+    call-taken (a .buf .now) (s .store-layer .last .0) (a .place) (c .place-after .result) (givenLayer (a .number) (a .datatype) none) (f .plan-layer .result) (8) (f .plan-layer .ensures (a .number) (a .datatype)) (i .if1 .left) (layer-size (a .number) (a .datatype)) (c .place-after .ensures)
+    (s .store-layer .ensures)
 
 pub layer-spec : {M : Type 1} → statement M
 layer-spec =

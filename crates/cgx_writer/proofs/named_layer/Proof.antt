@@ -1,16 +1,9 @@
 -- The plan is the number of the refusal; where it is 0, the store is that of the record.
-use mathlib.Core.Path.{ap, _∙_}
 use mathlib.Core.Option.{some}
 use Prim.Native.Nat.{_+_, _*_, _/_}
 use native.Mathlib.Omega.{arith}
-use lib.IntN.{ℤ}
 use lib.ListN.{length}
-use mir.Syntax.{w16}
-use mir.Val.{toZ, ofZ}
-use mir.ValLaws.{toZ-ofZ}
-use Rattle.cgx_spec.specs.Records.{bytesOf}
-use Rattle.cgx_put.specs.Put.{put}
-use Rattle.cgx_writing.specs.Given.{written, givenLayer}
+use Rattle.cgx_writing.specs.Given.{givenLayer}
 use Rattle.cgx_plans.proofs.Order.{call-refused, call-taken, call-fits}
 use Rattle.cgx_writing.proofs.Sizes.{named-size}
 use borrow.Author.Needs.{needs}
@@ -27,14 +20,14 @@ returns : tie.Need-returns
 returns c =
     let f = c .before .before in
     let a = f .before .before .before .args in
-    call-refused (a .buf .now) (a .place) (givenLayer (a .number) (a .datatype) (some (a .name .now))) (f .plan-named .result) (c .refusal .result) (c .refusal .ensures) (f .plan-named .ensures (a .number .0) (a .datatype .0)) (c .before .if1 .taken)
+    call-refused (a .buf .now) (a .place) (givenLayer (a .number) (a .datatype) (some (a .name .now))) (f .plan-named .result) (c .refusal .result) (c .refusal .ensures) (f .plan-named .ensures (a .number) (a .datatype)) (c .before .if1 .taken)
 
 store-named-requires : tie.Need-store-named-requires
 store-named-requires c κs =
-    let i = c .before .before .before in
+    let i = c .before in
     let f = i .before in
     let a = f .before .before .before .args in
-    let h = call-fits (length (a .buf .now)) (a .place) (givenLayer (a .number) (a .datatype) (some (a .name .now))) (f .plan-named .result) (10 + length (a .name .now) / 2 * 2) (f .plan-named .ensures (a .number .0) (a .datatype .0)) (i .if1 .left) (named-size (a .number) (a .datatype) (a .name .now)) in
+    let h = call-fits (length (a .buf .now)) (a .place) (givenLayer (a .number) (a .datatype) (some (a .name .now))) (f .plan-named .result) (10 + length (a .name .now) / 2 * 2) (f .plan-named .ensures (a .number) (a .datatype)) (i .if1 .left) (named-size (a .number) (a .datatype) (a .name .now)) in
     omega (arith, h .small, h .room)
 
 mul-place-after : tie.Need-mul-place-after
@@ -45,10 +38,10 @@ add-place-after c = search needs
 
 place-after-requires : tie.Need-place-after-requires
 place-after-requires c κs =
-    let i = c .before .before .before .before .before .before in
+    let i = c .before .before .before .before in
     let f = i .before in
     let a = f .before .before .before .args in
-    let h = call-fits (length (a .buf .now)) (a .place) (givenLayer (a .number) (a .datatype) (some (a .name .now))) (f .plan-named .result) (10 + length (a .name .now) / 2 * 2) (f .plan-named .ensures (a .number .0) (a .datatype .0)) (i .if1 .left) (named-size (a .number) (a .datatype) (a .name .now)) in
+    let h = call-fits (length (a .buf .now)) (a .place) (givenLayer (a .number) (a .datatype) (some (a .name .now))) (f .plan-named .result) (10 + length (a .name .now) / 2 * 2) (f .plan-named .ensures (a .number) (a .datatype)) (i .if1 .left) (named-size (a .number) (a .datatype) (a .name .now)) in
     let n = a .buf .now in
     (omega (arith, h .small, h .room), omega (arith, h .few, h .room))
 
@@ -59,13 +52,11 @@ returns-2 : tie.Need-returns-2
 unfolding givenLayer
 returns-2 c =
     let s = c .before .before .before in
-    let i = c .before .before .before .before .before .before .before in
+    let i = s .before .before in
     let f = i .before in
     let a = f .before .before .before .args in
-    call-taken (a .buf .now) (s .store-named .last .0) (a .place) (c .place-after .result) (givenLayer (a .number) (a .datatype) (some (a .name .now))) (f .plan-named .result) (10 + length (a .name .now) / 2 * 2) (f .plan-named .ensures (a .number .0) (a .datatype .0)) (i .if1 .left) (named-size (a .number) (a .datatype) (a .name .now)) (c .place-after .ensures)
-    (s .store-named .ensures
-    ∙ ap (λ (z : ℤ). put (a .buf .now) (a .place .at) (bytesOf (written (givenLayer (record { 0 = z }) (record { 0 = toZ w16 (ofZ w16 (a .datatype .0)) }) (some (a .name .now)))))) (toZ-ofZ w16 (a .number .0) (record { sfits = c .before .before .before .before .before .before .struct-told .given .0 .1 }))
-    ∙ ap (λ (z : ℤ). put (a .buf .now) (a .place .at) (bytesOf (written (givenLayer (a .number) (record { 0 = z }) (some (a .name .now)))))) (toZ-ofZ w16 (a .datatype .0) (record { sfits = c .before .before .before .before .before .struct-told2 .given .0 .1 })))
+    call-taken (a .buf .now) (s .store-named .last .0) (a .place) (c .place-after .result) (givenLayer (a .number) (a .datatype) (some (a .name .now))) (f .plan-named .result) (10 + length (a .name .now) / 2 * 2) (f .plan-named .ensures (a .number) (a .datatype)) (i .if1 .left) (named-size (a .number) (a .datatype) (a .name .now)) (c .place-after .ensures)
+    (s .store-named .ensures)
 
 pub named-layer-spec : {M : Type 1} → statement M
 named-layer-spec =
