@@ -5,6 +5,8 @@ use Prim.Native.Nat.{ℕ, _≤_}
 use native.Mathlib.Omega.{arith}
 use lib.IntN.{ℤ, pos}
 use lib.ListN.{length}
+use mir.Syntax.{w32}
+use mir.Val.{SFits}
 use Rattle.cgx_spec.specs.declared.Offset.{Offset}
 use Rattle.cgx_spec.specs.declared.Place.{Place}
 use Rattle.cgx_spec.specs.Numbers.{Bytes}
@@ -12,10 +14,10 @@ use Rattle.cgx_writing.specs.declared.EndStyle.the-variants.{Unstated}
 use Rattle.cgx_writing.specs.declared.Answer.{Answer}
 use Rattle.cgx_writing.specs.declared.Answer.the-variants.{Taken, Refused}
 use Rattle.cgx_writing.specs.Given.{Given}
-use Rattle.cgx_writing.specs.Typed.{Longs}
+use Rattle.cgx_writing.specs.Typed.{Longs, AllWell}
 use Rattle.cgx_writing.specs.Writing.{Outcome, callIn, placeOf, History, ifTaken, calls}
-use Rattle.cgx_writing.specs.Demands.{AllWell}
 use Rattle.cgx_writing.proofs.Calling.{calls-promises}
+use Rattle.cgx_writing.proofs.Ranges.{long-in}
 use Rattle.cgx_makers.specs.Makers.{corners, cardCalls, frameCalls, unlessRefused, inTurn, orNothing, allIn}
 use Rattle.cgx_makers.specs.Demand.{MakersDemand}
 
@@ -125,3 +127,15 @@ makers-demand =
       card = card;
       frame = λ l b r t label h w. frame l b r t h label w;
     }
+
+-- ---- of sides that are parameters of the code
+
+module _ (left bottom right top : ℤ) (l : SFits w32 left) (b : SFits w32 bottom) (r : SFits w32 right) (t : SFits w32 top) where
+  sides : Longs (left ∷ bottom ∷ right ∷ top ∷ [])
+  sides = (long-in left (l .sfits), (long-in bottom (b .sfits), (long-in right (r .sfits), (long-in top (t .sfits), tt))))
+
+  pub card-typed : AllWell (cardCalls left bottom right top)
+  card-typed = makers-demand .card left bottom right top sides
+
+  pub frame-typed : (label : List ℕ) → Bytes label → AllWell (frameCalls left bottom right top label)
+  frame-typed label h = makers-demand .frame left bottom right top label sides h

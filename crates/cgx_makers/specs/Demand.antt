@@ -8,9 +8,8 @@ use Rattle.cgx_spec.specs.declared.Offset.{Offset}
 use Rattle.cgx_spec.specs.Numbers.{Bytes}
 use Rattle.cgx_writing.specs.declared.Answer.the-variants.{Taken, Refused}
 use Rattle.cgx_writing.specs.Given.{Given}
-use Rattle.cgx_writing.specs.Typed.{Longs}
+use Rattle.cgx_writing.specs.Typed.{Longs, AllWell}
 use Rattle.cgx_writing.specs.Writing.{callIn, calls}
-use Rattle.cgx_writing.specs.Demands.{AllWell}
 use Rattle.cgx_makers.specs.Makers.{cardCalls, frameCalls, allIn}
 
 pub record MakersDemand : Type 0 where
@@ -22,6 +21,6 @@ pub record MakersDemand : Type 0 where
   -- The first refusal is answered: that of the first record that the calls, taken in turn, refuse.
   pub first : (buf : List ℕ) (p q : Place) (before gs : List Given) (g : Given) (n : ℕ) (o : Offset) → let h = calls buf p before in
       h .taken ≡ before → callIn (h .buffer) (h .place) g .answer ≡ Refused n o q → allIn buf p (before ++ (g ∷ gs)) ≡ record { answer = Refused n o p; buffer = buf }
-  -- What the makers give is well typed, as `any-calls` of the writer's round trip asks.
+  -- What the makers give is well typed, as `any-calls` of the writer's round trip asks; each maker ensures it (`ensures typed`).
   pub card : (left bottom right top : ℤ) → Longs (left ∷ bottom ∷ right ∷ top ∷ []) → AllWell (cardCalls left bottom right top)
   pub frame : (left bottom right top : ℤ) (label : List ℕ) → Longs (left ∷ bottom ∷ right ∷ top ∷ []) → Bytes label → AllWell (frameCalls left bottom right top label)

@@ -1,7 +1,9 @@
-// The makers: each appends several records, all or nothing. All are planned, with their places in turn, before the first is stored.
+// The makers: each appends several records, all or nothing. All are planned, with their places in turn, before the first is stored. What they give is well typed, as what
+// the writer's calls give is.
 ghost use mathlib.Core.Path.{_≡_};
 ghost use Prim.Native.Nat.{_+_, _*_, _≤_};
 ghost use lib.ListN.{length};
+ghost use Rattle.cgx_writing.specs.Typed.{AllWell};
 ghost use Rattle.cgx_writing.specs.Writing.{maxSize};
 ghost use Rattle.cgx_makers.specs.Makers.{corners, outline, cardCalls, frameCalls, allIn};
 ghost use Rattle.cgx_makers.specs.Planned.{allPlanned, allStored};
@@ -34,6 +36,7 @@ pub fn test_card(
     top: i32,
 ) -> Answer
     ensures { λ r. ⌜ record { answer = r; buffer = now (buf .exit) } ≡ allIn (now (buf .entry)) place (cardCalls left bottom right top) ⌝ }
+    ensures typed { λ _. ⌜ AllWell (cardCalls left bottom right top) ⌝ }
 {
     let corners = corners_of(left, bottom, right, top);
     let planned = plan_outline(buf.len(), place, &corners);
@@ -55,6 +58,7 @@ pub fn caption_frame(
     label: &[u8],
 ) -> Answer
     ensures { λ r. ⌜ record { answer = r; buffer = now (buf .exit) } ≡ allIn (now (buf .entry)) place (frameCalls left bottom right top (now (label .entry))) ⌝ }
+    ensures typed { λ _. ⌜ AllWell (frameCalls left bottom right top (now (label .entry))) ⌝ }
 {
     let corners = corners_of(left, bottom, right, top);
     let planned = plan_outline(buf.len(), place, &corners);

@@ -5,6 +5,7 @@ ghost use Prim.Native.Nat.{_+_, _<_};
 ghost use Rattle.cgx_spec.specs.Order.{next};
 ghost use Rattle.cgx_records.specs.Faults.{waiting};
 ghost use Rattle.cgx_writing.specs.Given.{givenLibrary, givenStruct, givenCprpty, givenProperty, givenLayer, givenBox, givenPoly, givenWire, givenText, givenSref, givenEndlib};
+ghost use Rattle.cgx_writing.specs.Typed.{WellTyped};
 ghost use Rattle.cgx_writing.specs.Writing.{startIn, callIn, named};
 use cgx_kinds::Boxes;
 use cgx_kinds::Cprpty;
@@ -55,6 +56,7 @@ use cgx_writing::Answer;
 use cgx_writing::EndStyle;
 use cgx_writing::Grid;
 use cgx_writing::Started;
+use cgx_writing::all_longs;
 use cgx_writing::sref_size;
 
 // Stores the four bytes that a file begins with.
@@ -72,7 +74,7 @@ pub fn start(buf: &mut [u8]) -> Started
     Started::Ready(Place::start())
 }
 
-// ---- the calls
+// ---- the calls: what each gives is well typed, since its parameters have their types, so that the promises on the writer speak of it
 
 // Appends LIBRARY. The two reals are given as their eight bytes.
 pub fn library(
@@ -86,6 +88,7 @@ pub fn library(
     name: &[u8],
 ) -> Answer
     ensures { λ r. ⌜ record { answer = r; buffer = now (buf .exit) } ≡ callIn (now (buf .entry)) place (givenLibrary version munit uunit created modified (now (name .entry))) ⌝ }
+    ensures typed { λ _. ⌜ WellTyped (givenLibrary version munit uunit created modified (now (name .entry))) ⌝ }
 {
     let fault = plan_library(
         buf.len(),
@@ -108,6 +111,7 @@ pub fn library(
 // Appends a STRUCT, which opens a cell.
 pub fn structure(buf: &mut [u8], place: Place, created: Date, modified: Date, name: &[u8]) -> Answer
     ensures { λ r. ⌜ record { answer = r; buffer = now (buf .exit) } ≡ callIn (now (buf .entry)) place (givenStruct created modified (now (name .entry))) ⌝ }
+    ensures typed { λ _. ⌜ WellTyped (givenStruct created modified (now (name .entry))) ⌝ }
 {
     let fault = plan_struct(buf.len(), place, created, modified, name);
     if fault != 0 {
@@ -121,6 +125,7 @@ pub fn structure(buf: &mut [u8], place: Place, created: Date, modified: Date, na
 // Appends a CPRPTY: a property of the cell.
 pub fn cprpty(buf: &mut [u8], place: Place, number: i32, value: &[u8]) -> Answer
     ensures { λ r. ⌜ record { answer = r; buffer = now (buf .exit) } ≡ callIn (now (buf .entry)) place (givenCprpty number (now (value .entry))) ⌝ }
+    ensures typed { λ _. ⌜ WellTyped (givenCprpty number (now (value .entry))) ⌝ }
 {
     let fault = plan_cprpty(buf.len(), place, value);
     if fault != 0 {
@@ -134,6 +139,7 @@ pub fn cprpty(buf: &mut [u8], place: Place, number: i32, value: &[u8]) -> Answer
 // Appends a PROPERTY of the object that follows.
 pub fn property(buf: &mut [u8], place: Place, number: i32, value: &[u8]) -> Answer
     ensures { λ r. ⌜ record { answer = r; buffer = now (buf .exit) } ≡ callIn (now (buf .entry)) place (givenProperty number (now (value .entry))) ⌝ }
+    ensures typed { λ _. ⌜ WellTyped (givenProperty number (now (value .entry))) ⌝ }
 {
     let fault = plan_property(buf.len(), place, value);
     if fault != 0 {
@@ -151,6 +157,7 @@ pub fn property(buf: &mut [u8], place: Place, number: i32, value: &[u8]) -> Answ
 // Appends a LAYER without a name.
 pub fn layer(buf: &mut [u8], place: Place, number: LayerNo, datatype: DataType) -> Answer
     ensures { λ r. ⌜ record { answer = r; buffer = now (buf .exit) } ≡ callIn (now (buf .entry)) place (givenLayer number datatype none) ⌝ }
+    ensures typed { λ _. ⌜ WellTyped (givenLayer number datatype none) ⌝ }
 {
     let fault = plan_layer(buf.len(), place);
     if fault != 0 {
@@ -170,6 +177,7 @@ pub fn named_layer(
     name: &[u8],
 ) -> Answer
     ensures { λ r. ⌜ record { answer = r; buffer = now (buf .exit) } ≡ callIn (now (buf .entry)) place (givenLayer number datatype (some (now (name .entry)))) ⌝ }
+    ensures typed { λ _. ⌜ WellTyped (givenLayer number datatype (some (now (name .entry)))) ⌝ }
 {
     let fault = plan_named(buf.len(), place, name);
     if fault != 0 {
@@ -187,7 +195,9 @@ pub fn named_layer(
 // Appends a BOX record: left, bottom, right, top of each box.
 pub fn boxes(buf: &mut [u8], place: Place, sides: &[i32]) -> Answer
     ensures { λ r. ⌜ record { answer = r; buffer = now (buf .exit) } ≡ callIn (now (buf .entry)) place (givenBox (now (sides .entry))) ⌝ }
+    ensures typed { λ _. ⌜ WellTyped (givenBox (now (sides .entry))) ⌝ }
 {
+    all_longs(sides);
     let fault = plan_box(buf.len(), place, sides);
     if fault != 0 {
         return refusal(fault, place);
@@ -200,7 +210,9 @@ pub fn boxes(buf: &mut [u8], place: Place, sides: &[i32]) -> Answer
 // Appends a POLY: x and y of each point, the first again at the end.
 pub fn poly(buf: &mut [u8], place: Place, points: &[i32]) -> Answer
     ensures { λ r. ⌜ record { answer = r; buffer = now (buf .exit) } ≡ callIn (now (buf .entry)) place (givenPoly (now (points .entry))) ⌝ }
+    ensures typed { λ _. ⌜ WellTyped (givenPoly (now (points .entry))) ⌝ }
 {
+    all_longs(points);
     let fault = plan_poly(buf.len(), place, points);
     if fault != 0 {
         return refusal(fault, place);
@@ -217,7 +229,9 @@ pub fn poly(buf: &mut [u8], place: Place, points: &[i32]) -> Answer
 // Appends a WIRE: x and y of each point.
 pub fn wire(buf: &mut [u8], place: Place, style: EndStyle, width: i32, points: &[i32]) -> Answer
     ensures { λ r. ⌜ record { answer = r; buffer = now (buf .exit) } ≡ callIn (now (buf .entry)) place (givenWire style width (now (points .entry))) ⌝ }
+    ensures typed { λ _. ⌜ WellTyped (givenWire style width (now (points .entry))) ⌝ }
 {
+    all_longs(points);
     let fault = plan_wire(buf.len(), place, style, points);
     if fault != 0 {
         return refusal(fault, place);
@@ -234,6 +248,7 @@ pub fn wire(buf: &mut [u8], place: Place, style: EndStyle, width: i32, points: &
 // Appends a TEXT.
 pub fn text(buf: &mut [u8], place: Place, flags: u8, at: Point, width: i32, label: &[u8]) -> Answer
     ensures { λ r. ⌜ record { answer = r; buffer = now (buf .exit) } ≡ callIn (now (buf .entry)) place (givenText flags at width (now (label .entry))) ⌝ }
+    ensures typed { λ _. ⌜ WellTyped (givenText flags at width (now (label .entry))) ⌝ }
 {
     let fault = plan_text(buf.len(), place, flags, label);
     if fault != 0 {
@@ -258,6 +273,7 @@ pub fn sref(
     name: &[u8],
 ) -> Answer
     ensures { λ r. ⌜ record { answer = r; buffer = now (buf .exit) } ≡ callIn (now (buf .entry)) place (givenSref flags at angle magnif grid (now (name .entry))) ⌝ }
+    ensures typed { λ _. ⌜ WellTyped (givenSref flags at angle magnif grid (now (name .entry))) ⌝ }
 {
     let fault = plan_sref(buf.len(), place, flags, &magnif, grid, name);
     if fault != 0 {
@@ -273,6 +289,7 @@ pub fn sref(
 // Appends ENDLIB.
 pub fn endlib(buf: &mut [u8], place: Place) -> Answer
     ensures { λ r. ⌜ record { answer = r; buffer = now (buf .exit) } ≡ callIn (now (buf .entry)) place givenEndlib ⌝ }
+    ensures typed { λ _. ⌜ WellTyped givenEndlib ⌝ }
 {
     let fault = plan_endlib(buf.len(), place);
     if fault != 0 {

@@ -22,9 +22,9 @@ use Rattle.cgx_spec.proofs.Chain.{good-chain, file-complete}
 use Rattle.cgx_put.specs.Put.{put}
 use Rattle.cgx_put.proofs.Puts.{put-length}
 use Rattle.cgx_writing.specs.Given.{Given, meant, written}
-use Rattle.cgx_writing.specs.Typed.{WellTyped}
+use Rattle.cgx_writing.specs.Typed.{WellTyped, AllWell}
 use Rattle.cgx_writing.specs.Writing.{rulesOf, checks, placeBehind, settled, callIn, placeOf, History, ifTaken, calls, fromStart, fileOf}
-use Rattle.cgx_writing.specs.Demands.{AllWell, ReadBack}
+use Rattle.cgx_writing.specs.Demands.{ReadBack}
 use Rattle.cgx_writing.proofs.Records.{further, checks-are, kind-written, Good, good-call}
 use Rattle.cgx_writing.proofs.Stores.{take-put, take-record, start-is}
 

@@ -1,6 +1,6 @@
 -- `Items`: one item as the bytes of its field. `Layouts`: a body of items against its fields. `Records`: a call's record against a reader's rules. `Stores`: the
 -- buffer after a call. `Sizes`: the size of what each call writes. `Standing`: places that are not forged. `Histories`: calls one after another, read back. `Rooms`: room enough, and too little. `Calling`: what
--- the calls of each kind give is well typed. `Promises`: all that `Demands` states.
+-- the calls of each kind give is well typed. `Ranges`: what the prover knows of parameters, as that asks it. `Promises`: all that `Demands` states.
 pub mod Items
 pub mod Widths
 pub mod Layouts
@@ -11,6 +11,7 @@ pub mod Standing
 pub mod Histories
 pub mod Rooms
 pub mod Calling
+pub mod Ranges
 pub mod Specimens
 pub mod Promises
 -- `Polys`, `Srefs`: the sizes of these two.

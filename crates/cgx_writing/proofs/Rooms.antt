@@ -18,9 +18,9 @@ use Rattle.cgx_put.specs.Put.{put}
 use Rattle.cgx_put.proofs.Puts.{put-length}
 use Rattle.cgx_writing.specs.declared.Answer.the-variants.{Taken, Refused}
 use Rattle.cgx_writing.specs.Given.{Given, written}
-use Rattle.cgx_writing.specs.Typed.{WellTyped}
+use Rattle.cgx_writing.specs.Typed.{WellTyped, AllWell}
 use Rattle.cgx_writing.specs.Writing.{rulesOf, placeBehind, Outcome, settled, callIn, placeOf, ifTaken, calls, fromStart, fileOf}
-use Rattle.cgx_writing.specs.Demands.{AllWell, Whole, ReadBack, Stops}
+use Rattle.cgx_writing.specs.Demands.{Whole, ReadBack, Stops}
 use Rattle.cgx_writing.proofs.Records.{checks-are, Good, good-call}
 use Rattle.cgx_spec.proofs.Steps.{Standing, not-forged, standing-start}
 use Rattle.cgx_writing.proofs.Standing.{standing-behind}

@@ -28,15 +28,11 @@ use Rattle.cgx_writing.specs.declared.Grid.{Grid}
 use Rattle.cgx_writing.specs.declared.Started.the-variants.{Ready, Refused as NotBegun}
 use Rattle.cgx_writing.specs.declared.Answer.the-variants.{Refused}
 use Rattle.cgx_writing.specs.Given.{Given, keepsGiven, meant, written, styleOf, givenLibrary, givenStruct, givenCprpty, givenProperty, givenLayer, givenBox, givenPoly, givenWire, givenText, givenSref, givenEndlib}
-use Rattle.cgx_writing.specs.Typed.{Short, Long, Longs, IsDate, IsPoint, IsGrid, WellTyped}
+use Rattle.cgx_writing.specs.Typed.{Short, Long, Longs, IsDate, IsPoint, IsGrid, WellTyped, AllWell}
 use Rattle.cgx_writing.specs.Writing.{maxSize, allowedHere, rulesOf, placeBehind, callIn, startIn, placeOf, History, fromStart, fileOf}
 use Rattle.cgx_writing.specs.Specimens.{drawingCalls}
 
 -- ---- what is given
-
-abbrev pub AllWell : List Given → Type 0
-AllWell [] = Unit {0}
-AllWell (g ∷ gs) = WellTyped g × AllWell gs
 
 -- Records that keep all rules but 14 and 16, one after another from a place on, the last of them ENDLIB.
 abbrev pub Whole : Place → List Given → Type 0
@@ -100,7 +96,8 @@ pub record RulesPromises : Type 0 where
 -- ---- the calls of each kind
 
 pub record CallsPromises : Type 0 where
-  -- Where the parameters have their types, what is given is well typed: the promises above speak of every call.
+  -- Where the parameters have their types, what is given is well typed: the promises above speak of every call. Each call of `cgx_writer` ensures it of what it gives
+  -- (`ensures typed`).
   pub library : (version : ℕ) (munit uunit : List ℕ) (created modified : Date) (name : List ℕ) → version < 256 → IsDate created → IsDate modified → Bytes name → WellTyped (givenLibrary version munit uunit created modified name)
   pub struct : (created modified : Date) (name : List ℕ) → IsDate created → IsDate modified → Bytes name → WellTyped (givenStruct created modified name)
   pub cprpty : (number : ℤ) (value : List ℕ) → Long number → Bytes value → WellTyped (givenCprpty number value)

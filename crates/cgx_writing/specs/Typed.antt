@@ -60,3 +60,8 @@ AllTyped (f ∷ fs) (i ∷ is) = Typed f i × AllTyped fs is
 pub record WellTyped (g : Given) : Type 0 where
   pub flags : g .flags < 256
   pub items : AllTyped (fieldsOf g) (g .items)
+
+-- What calls one after another give.
+abbrev pub AllWell : List Given → Type 0
+AllWell [] = Unit {0}
+AllWell (g ∷ gs) = WellTyped g × AllWell gs

@@ -1,9 +1,10 @@
-// What a call of the writer is given, and what it answers: the types that the definitions in specs/ and the writer's code share. And what plans and stores share: a
-// date's bytes, and the size of an SREF.
+// What a call of the writer is given, and what it answers: the types that the definitions in specs/ and the writer's code share. And what plans, stores
+// and calls share: a date's bytes, the size of an SREF, and that a list of longs is one.
 ghost use mathlib.Core.Path.{_≡_};
 ghost use Prim.Native.Nat.{_≤_};
 ghost use lib.ListN.{length};
 ghost use Rattle.cgx_writing.specs.Given.{dateBytes, styleOf};
+ghost use Rattle.cgx_writing.specs.Typed.{Longs};
 ghost use Rattle.cgx_writing.specs.Srefs.{widthIf, srefSize};
 use cgx_kinds::Date;
 use cgx_kinds::Point;
@@ -60,6 +61,18 @@ pub fn date_bytes(d: Date) -> WordBytes
         d.second,
         0,
     ]
+}
+
+// Tells the prover that a list holds longs and nothing else, which the round trip asks. It knows what a slice of bytes holds, but of signed numbers only those that are
+// read. Nothing is made of what is read here, and the compiler leaves the loop out.
+pub fn all_longs(zs: &[i32])
+    ensures { λ _. ⌜ Longs (now (zs .entry)) ⌝ }
+{
+    let mut i = 0;
+    while i < zs.len() {
+        let z = zs[i];
+        i += 1;
+    }
 }
 
 // ---- what is answered

@@ -19,6 +19,7 @@ use Rattle.cgx_makers.specs.Makers.{corners, outline, frameCalls}
 use Rattle.cgx_makers.specs.Planned.{allPlanned, allStored}
 use Rattle.cgx_makers.proofs.Turns.{all-taken, all-refused, plan-stops, plan-goes, plan-more, plan-refused, stored-more, stored-length}
 use Rattle.cgx_makers.proofs.Outline.{corners-held, outline-fits}
+use Rattle.cgx_makers.proofs.Demand.{frame-typed}
 use borrow.Author.Needs.{needs}
 use Rattle.cgx_makers.proofs.caption_frame.Statement.{statement}
 use Rattle.cgx_makers.proofs.caption_frame.Tie as tie
@@ -49,7 +50,7 @@ returns c =
     let e = sym (ap (λ (zs : List ℤ). allPlanned (length (a .buf .now)) (a .place) (a .place) (outline zs)) h) ∙ sym (f .plan-outline .ensures) in
     let g = (givenText 0 (record { x = a .left; y = a .bottom }) (pos 2) (a .label .now)) in
     let r = plan-refused (length (a .buf .now)) (a .place) (t .0 .1 .1 .0) (t .0 .0) (t .0 .1 .0) (g ∷ []) (outline (corners (a .left) (a .bottom) (a .right) (a .top))) (a .place) (e ∙ t .1) in
-    all-refused (a .buf .now) (a .place) (t .0 .1 .1 .0) (frameCalls (a .left) (a .bottom) (a .right) (a .top) (a .label .now)) (f .plan-outline .result) (t .1 ∙ sym r) (t .0 .0) (t .0 .1 .0) (t .1)
+    (all-refused (a .buf .now) (a .place) (t .0 .1 .1 .0) (frameCalls (a .left) (a .bottom) (a .right) (a .top) (a .label .now)) (f .plan-outline .result) (t .1 ∙ sym r) (t .0 .0) (t .0 .1 .0) (t .1), frame-typed (a .left) (a .bottom) (a .right) (a .top) (v .fits .left) (v .fits .bottom) (v .fits .right) (v .fits .top) (a .label .now) (λ i. s .before .shared-slice-known .given i .fits))
 
 plan-text-requires : tie.Need-plan-text-requires
 plan-text-requires c κs = search needs
@@ -72,7 +73,7 @@ returns-2 c =
     let n = w .plan-text .result in
     let m = plan-more (length (a .buf .now)) (a .place) q (g ∷ []) (outline (corners (a .left) (a .bottom) (a .right) (a .top))) (a .place) (e ∙ k .planned .given .1) in
     let r = plan-stops (length (a .buf .now)) (a .place) q g [] n (c .refusal-at .result) (w .plan-text .ensures (a .left) (a .bottom) (pos 2)) (c .before .if1 .taken) (c .refusal-at .ensures) in
-    all-refused (a .buf .now) (a .place) (a .place) (frameCalls (a .left) (a .bottom) (a .right) (a .top) (a .label .now)) (c .refusal-at .result) (r ∙ sym m) n (named n (q .at)) (c .refusal-at .ensures)
+    (all-refused (a .buf .now) (a .place) (a .place) (frameCalls (a .left) (a .bottom) (a .right) (a .top) (a .label .now)) (c .refusal-at .result) (r ∙ sym m) n (named n (q .at)) (c .refusal-at .ensures), frame-typed (a .left) (a .bottom) (a .right) (a .top) (v .fits .left) (v .fits .bottom) (v .fits .right) (v .fits .top) (a .label .now) (λ i. s .before .shared-slice-known .given i .fits))
 
 mul-place-after : tie.Need-mul-place-after
 mul-place-after c = search needs
@@ -148,7 +149,7 @@ returns-3 c =
     ∙ ap (λ (z : ℤ). put b (q .at) (bytesOf (written (givenText 0 (record { x = a .left; y = z }) (pos 2) (a .label .now))))) (toZ-ofZ w32 (a .bottom) (v .fits .bottom))
     ∙ ap (λ (l : List ℕ). put l (q .at) (bytesOf (written g))) (o .store-outline .ensures ∙ ap (λ (zs : List ℤ). allStored (a .buf .now) (a .place) (outline zs)) h)
     ∙ sym (stored-more (length (a .buf .now)) (a .place) q (g ∷ []) (outline (corners (a .left) (a .bottom) (a .right) (a .top))) (a .place) (a .buf .now) z) in
-    all-taken (a .buf .now) (a .place) (n .place-after .result) (frameCalls (a .left) (a .bottom) (a .right) (a .top) (a .label .now)) (Taken (n .place-after .result)) (r ∙ sym m) (x .store-text .last .0) refl y
+    (all-taken (a .buf .now) (a .place) (n .place-after .result) (frameCalls (a .left) (a .bottom) (a .right) (a .top) (a .label .now)) (Taken (n .place-after .result)) (r ∙ sym m) (x .store-text .last .0) refl y, frame-typed (a .left) (a .bottom) (a .right) (a .top) (v .fits .left) (v .fits .bottom) (v .fits .right) (v .fits .top) (a .label .now) (λ i. s .before .shared-slice-known .given i .fits))
 
 pub caption-frame-spec : {M : Type 1} → statement M
 caption-frame-spec =

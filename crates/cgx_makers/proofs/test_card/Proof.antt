@@ -8,6 +8,7 @@ use Rattle.cgx_makers.specs.Makers.{outline, cardCalls}
 use Rattle.cgx_makers.specs.Planned.{allPlanned, allStored}
 use Rattle.cgx_makers.proofs.Turns.{all-taken, all-refused}
 use Rattle.cgx_makers.proofs.Outline.{corners-held, outline-fits}
+use Rattle.cgx_makers.proofs.Demand.{card-typed}
 use borrow.Author.Needs.{needs}
 use Rattle.cgx_makers.proofs.test_card.Statement.{statement}
 use Rattle.cgx_makers.proofs.test_card.Tie as tie
@@ -35,7 +36,7 @@ returns c =
     let a = v .args in
     let e = f .plan-outline .ensures ∙ ap (λ (zs : List ℤ). allPlanned (length (a .buf .now)) (a .place) (a .place) (outline zs)) (s .corners-of .ensures ∙ corners-held (a .left) (a .bottom) (a .right) (a .top) (v .fits .left) (v .fits .bottom) (v .fits .right) (v .fits .top)) in
     let t = c .enum-told .given in
-    all-refused (a .buf .now) (a .place) (t .0 .1 .1 .0) (cardCalls (a .left) (a .bottom) (a .right) (a .top)) (f .plan-outline .result) e (t .0 .0) (t .0 .1 .0) (t .1)
+    (all-refused (a .buf .now) (a .place) (t .0 .1 .1 .0) (cardCalls (a .left) (a .bottom) (a .right) (a .top)) (f .plan-outline .result) e (t .0 .0) (t .0 .1 .0) (t .1), card-typed (a .left) (a .bottom) (a .right) (a .top) (v .fits .left) (v .fits .bottom) (v .fits .right) (v .fits .top))
 
 slice-aggregate-store-outline : tie.Need-slice-aggregate-store-outline
 slice-aggregate-store-outline c = search needs
@@ -60,9 +61,11 @@ returns-2 c =
     let v = s .before .before in
     let a = v .args in
     let h = s .corners-of .ensures ∙ corners-held (a .left) (a .bottom) (a .right) (a .top) (v .fits .left) (v .fits .bottom) (v .fits .right) (v .fits .top) in
-    let e = f .plan-outline .ensures ∙ ap (λ (zs : List ℤ). allPlanned (length (a .buf .now)) (a .place) (a .place) (outline zs)) h in
-    all-taken (a .buf .now) (a .place) (k .planned .given .0 .0) (cardCalls (a .left) (a .bottom) (a .right) (a .top)) (f .plan-outline .result) e (w .store-outline .last .0) (k .planned .given .1)
-    (w .store-outline .ensures ∙ ap (λ (zs : List ℤ). allStored (a .buf .now) (a .place) (outline zs)) h)
+    let e = f .plan-outline .ensures ∙ ap (λ (zs : List ℤ). allPlanned (length (a .buf .now)) (a .place) (a .place) (outline zs)) h in (
+      all-taken (a .buf .now) (a .place) (k .planned .given .0 .0) (cardCalls (a .left) (a .bottom) (a .right) (a .top)) (f .plan-outline .result) e (w .store-outline .last .0) (k .planned .given .1)
+          (w .store-outline .ensures ∙ ap (λ (zs : List ℤ). allStored (a .buf .now) (a .place) (outline zs)) h),
+      card-typed (a .left) (a .bottom) (a .right) (a .top) (v .fits .left) (v .fits .bottom) (v .fits .right) (v .fits .top),
+    )
 
 pub test-card-spec : {M : Type 1} → statement M
 test-card-spec =

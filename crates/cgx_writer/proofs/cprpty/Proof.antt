@@ -11,6 +11,8 @@ use Rattle.cgx_put.specs.Put.{put}
 use Rattle.cgx_writing.specs.Given.{written, givenCprpty}
 use Rattle.cgx_writing.proofs.Widths.{cprpty-size}
 use Rattle.cgx_plans.proofs.Order.{call-refused, call-taken, call-fits}
+use Rattle.cgx_writing.proofs.Calling.{calls-promises}
+use Rattle.cgx_writing.proofs.Ranges.{long-in}
 use borrow.Author.Needs.{needs}
 use Rattle.cgx_writer.proofs.cprpty.Statement.{statement}
 use Rattle.cgx_writer.proofs.cprpty.Tie as tie
@@ -24,9 +26,12 @@ refusal-requires c κs = search needs
 returns : tie.Need-returns
 returns c =
     let f = c .before .before in
-    let a = f .before .before .before .args in
+    let start = f .before .before .before in
+    let a = start .args in
+    let k = f .before in
+    let typed = calls-promises .cprpty (a .number) (a .value .now) (long-in (a .number) (start .fits .number .sfits)) (λ i. k .shared-slice-known .given i .fits) in
     let g = givenCprpty (a .number) (a .value .now) in
-    call-refused (a .buf .now) (a .place) g (f .plan-cprpty .result) (c .refusal .result) (c .refusal .ensures) (f .plan-cprpty .ensures (a .number)) (c .before .if1 .taken)
+    (call-refused (a .buf .now) (a .place) g (f .plan-cprpty .result) (c .refusal .result) (c .refusal .ensures) (f .plan-cprpty .ensures (a .number)) (c .before .if1 .taken), typed)
 
 store-cprpty-requires : tie.Need-store-cprpty-requires
 store-cprpty-requires c κs =
@@ -62,10 +67,15 @@ returns-2 c =
     let s = c .before .before .before in
     let i = s .before .before in
     let f = i .before in
-    let a = f .before .before .before .args in
-    let g = givenCprpty (a .number) (a .value .now) in
-    call-taken (a .buf .now) (s .store-cprpty .last .0) (a .place) (c .place-after .result) g (f .plan-cprpty .result) (10 + length (a .value .now) / 2 * 2) (f .plan-cprpty .ensures (a .number)) (i .if1 .left) (cprpty-size (a .number) (a .value .now)) (c .place-after .ensures)
-    (s .store-cprpty .ensures ∙ ap (λ (z : ℤ). put (a .buf .now) (a .place .at) (bytesOf (written (givenCprpty z (a .value .now))))) (toZ-ofZ w32 (a .number) (f .before .before .before .fits .number)))
+    let start = f .before .before .before in
+    let a = start .args in
+    let k = f .before in
+    let typed = calls-promises .cprpty (a .number) (a .value .now) (long-in (a .number) (start .fits .number .sfits)) (λ i. k .shared-slice-known .given i .fits) in
+    let g = givenCprpty (a .number) (a .value .now) in (
+      call-taken (a .buf .now) (s .store-cprpty .last .0) (a .place) (c .place-after .result) g (f .plan-cprpty .result) (10 + length (a .value .now) / 2 * 2) (f .plan-cprpty .ensures (a .number)) (i .if1 .left) (cprpty-size (a .number) (a .value .now)) (c .place-after .ensures)
+          (s .store-cprpty .ensures ∙ ap (λ (z : ℤ). put (a .buf .now) (a .place .at) (bytesOf (written (givenCprpty z (a .value .now))))) (toZ-ofZ w32 (a .number) (f .before .before .before .fits .number))),
+      typed,
+    )
 
 pub cprpty-spec : {M : Type 1} → statement M
 cprpty-spec =

@@ -4,6 +4,7 @@ use lib.ListN.{length}
 use Rattle.cgx_writing.specs.Given.{givenEndlib}
 use Rattle.cgx_plans.proofs.Order.{call-refused, call-taken, call-fits}
 use Rattle.cgx_writing.proofs.Sizes.{endlib-size}
+use Rattle.cgx_writing.proofs.Calling.{calls-promises}
 use borrow.Author.Needs.{needs}
 use Rattle.cgx_writer.proofs.endlib.Statement.{statement}
 use Rattle.cgx_writer.proofs.endlib.Tie as tie
@@ -18,7 +19,8 @@ returns : tie.Need-returns
 returns c =
     let f = c .before .before in
     let a = f .before .before .args in
-    call-refused (a .buf .now) (a .place) (givenEndlib) (f .plan-endlib .result) (c .refusal .result) (c .refusal .ensures) (f .plan-endlib .ensures) (c .before .if1 .taken)
+    let typed = calls-promises .endlib in
+    (call-refused (a .buf .now) (a .place) (givenEndlib) (f .plan-endlib .result) (c .refusal .result) (c .refusal .ensures) (f .plan-endlib .ensures) (c .before .if1 .taken), typed)
 
 store-endlib-requires : tie.Need-store-endlib-requires
 store-endlib-requires c κs =
@@ -47,8 +49,11 @@ returns-2 c =
     let i = c .before .before .before .before .before in
     let f = i .before in
     let a = f .before .before .args in
-    call-taken (a .buf .now) (s .store-endlib .last .0) (a .place) (c .place-after .result) (givenEndlib) (f .plan-endlib .result) (4) (f .plan-endlib .ensures) (i .if1 .left) (endlib-size) (c .place-after .ensures)
-    (s .store-endlib .ensures)
+    let typed = calls-promises .endlib in (
+      call-taken (a .buf .now) (s .store-endlib .last .0) (a .place) (c .place-after .result) (givenEndlib) (f .plan-endlib .result) (4) (f .plan-endlib .ensures) (i .if1 .left) (endlib-size) (c .place-after .ensures)
+          (s .store-endlib .ensures),
+      typed,
+    )
 
 pub endlib-spec : {M : Type 1} → statement M
 endlib-spec =

@@ -5,6 +5,8 @@ use lib.ListN.{length}
 use Rattle.cgx_writing.specs.Given.{givenLayer}
 use Rattle.cgx_plans.proofs.Order.{call-refused, call-taken, call-fits}
 use Rattle.cgx_writing.proofs.Sizes.{layer-size}
+use Rattle.cgx_writing.proofs.Calling.{calls-promises}
+use Rattle.cgx_writing.proofs.Ranges.{number-in, type-in}
 use borrow.Author.Needs.{needs}
 use Rattle.cgx_writer.proofs.layer.Statement.{statement}
 use Rattle.cgx_writer.proofs.layer.Tie as tie
@@ -18,8 +20,10 @@ refusal-requires c κs = search needs
 returns : tie.Need-returns
 returns c =
     let f = c .before .before in
-    let a = f .before .before .args in
-    call-refused (a .buf .now) (a .place) (givenLayer (a .number) (a .datatype) none) (f .plan-layer .result) (c .refusal .result) (c .refusal .ensures) (f .plan-layer .ensures (a .number) (a .datatype)) (c .before .if1 .taken)
+    let start = f .before .before in
+    let a = start .args in
+    let typed = calls-promises .layer (a .number) (a .datatype) (number-in (a .number) (start .good .1 .1 .0)) (type-in (a .datatype) (start .good .1 .1 .1 .0)) in
+    (call-refused (a .buf .now) (a .place) (givenLayer (a .number) (a .datatype) none) (f .plan-layer .result) (c .refusal .result) (c .refusal .ensures) (f .plan-layer .ensures (a .number) (a .datatype)) (c .before .if1 .taken), typed)
 
 store-layer-requires : tie.Need-store-layer-requires
 store-layer-requires c κs =
@@ -47,9 +51,13 @@ returns-2 c =
     let s = c .before .before .before in
     let i = s .before .before in
     let f = i .before in
-    let a = f .before .before .args in
-    call-taken (a .buf .now) (s .store-layer .last .0) (a .place) (c .place-after .result) (givenLayer (a .number) (a .datatype) none) (f .plan-layer .result) (8) (f .plan-layer .ensures (a .number) (a .datatype)) (i .if1 .left) (layer-size (a .number) (a .datatype)) (c .place-after .ensures)
-    (s .store-layer .ensures)
+    let start = f .before .before in
+    let a = start .args in
+    let typed = calls-promises .layer (a .number) (a .datatype) (number-in (a .number) (start .good .1 .1 .0)) (type-in (a .datatype) (start .good .1 .1 .1 .0)) in (
+      call-taken (a .buf .now) (s .store-layer .last .0) (a .place) (c .place-after .result) (givenLayer (a .number) (a .datatype) none) (f .plan-layer .result) (8) (f .plan-layer .ensures (a .number) (a .datatype)) (i .if1 .left) (layer-size (a .number) (a .datatype)) (c .place-after .ensures)
+          (s .store-layer .ensures),
+      typed,
+    )
 
 pub layer-spec : {M : Type 1} → statement M
 layer-spec =

@@ -5,6 +5,8 @@ use lib.ListN.{length}
 use Rattle.cgx_writing.specs.Given.{givenLibrary}
 use Rattle.cgx_writing.proofs.Widths.{library-size}
 use Rattle.cgx_plans.proofs.Order.{call-refused, call-taken, call-fits}
+use Rattle.cgx_writing.proofs.Calling.{calls-promises}
+use Rattle.cgx_writing.proofs.Ranges.{date-in}
 use borrow.Author.Needs.{needs}
 use Rattle.cgx_writer.proofs.library.Statement.{statement}
 use Rattle.cgx_writer.proofs.library.Tie as tie
@@ -18,9 +20,12 @@ refusal-requires c κs = search needs
 returns : tie.Need-returns
 returns c =
     let f = c .before .before in
-    let a = f .before .before .before .args in
+    let start = f .before .before .before in
+    let a = start .args in
+    let k = f .before in
+    let typed = calls-promises .library (a .version) (a .munit) (a .uunit) (a .created) (a .modified) (a .name .now) (start .fits .version .fits) (date-in (a .created) (start .good .1 .1 .1 .1 .1 .0)) (date-in (a .modified) (start .good .1 .1 .1 .1 .1 .1 .0)) (λ i. k .shared-slice-known .given i .fits) in
     let g = givenLibrary (a .version) (a .munit) (a .uunit) (a .created) (a .modified) (a .name .now) in
-    call-refused (a .buf .now) (a .place) g (f .plan-library .result) (c .refusal .result) (c .refusal .ensures) (f .plan-library .ensures) (c .before .if1 .taken)
+    (call-refused (a .buf .now) (a .place) g (f .plan-library .result) (c .refusal .result) (c .refusal .ensures) (f .plan-library .ensures) (c .before .if1 .taken), typed)
 
 store-library-requires : tie.Need-store-library-requires
 store-library-requires c κs =
@@ -56,10 +61,15 @@ returns-2 c =
     let s = c .before .before .before in
     let i = s .before .before in
     let f = i .before in
-    let a = f .before .before .before .args in
-    let g = givenLibrary (a .version) (a .munit) (a .uunit) (a .created) (a .modified) (a .name .now) in
-    call-taken (a .buf .now) (s .store-library .last .0) (a .place) (c .place-after .result) g (f .plan-library .result) (38 + length (a .name .now) / 2 * 2) (f .plan-library .ensures) (i .if1 .left) (library-size (a .version) (a .munit) (a .uunit) (a .created) (a .modified) (a .name .now)) (c .place-after .ensures)
-    (s .store-library .ensures)
+    let start = f .before .before .before in
+    let a = start .args in
+    let k = f .before in
+    let typed = calls-promises .library (a .version) (a .munit) (a .uunit) (a .created) (a .modified) (a .name .now) (start .fits .version .fits) (date-in (a .created) (start .good .1 .1 .1 .1 .1 .0)) (date-in (a .modified) (start .good .1 .1 .1 .1 .1 .1 .0)) (λ i. k .shared-slice-known .given i .fits) in
+    let g = givenLibrary (a .version) (a .munit) (a .uunit) (a .created) (a .modified) (a .name .now) in (
+      call-taken (a .buf .now) (s .store-library .last .0) (a .place) (c .place-after .result) g (f .plan-library .result) (38 + length (a .name .now) / 2 * 2) (f .plan-library .ensures) (i .if1 .left) (library-size (a .version) (a .munit) (a .uunit) (a .created) (a .modified) (a .name .now)) (c .place-after .ensures)
+          (s .store-library .ensures),
+      typed,
+    )
 
 pub library-spec : {M : Type 1} → statement M
 library-spec =

@@ -6,6 +6,8 @@ use lib.ListN.{length}
 use Rattle.cgx_writing.specs.Given.{givenLayer}
 use Rattle.cgx_plans.proofs.Order.{call-refused, call-taken, call-fits}
 use Rattle.cgx_writing.proofs.Sizes.{named-size}
+use Rattle.cgx_writing.proofs.Calling.{calls-promises}
+use Rattle.cgx_writing.proofs.Ranges.{number-in, type-in}
 use borrow.Author.Needs.{needs}
 use Rattle.cgx_writer.proofs.named_layer.Statement.{statement}
 use Rattle.cgx_writer.proofs.named_layer.Tie as tie
@@ -19,8 +21,11 @@ refusal-requires c κs = search needs
 returns : tie.Need-returns
 returns c =
     let f = c .before .before in
-    let a = f .before .before .before .args in
-    call-refused (a .buf .now) (a .place) (givenLayer (a .number) (a .datatype) (some (a .name .now))) (f .plan-named .result) (c .refusal .result) (c .refusal .ensures) (f .plan-named .ensures (a .number) (a .datatype)) (c .before .if1 .taken)
+    let start = f .before .before .before in
+    let a = start .args in
+    let k = f .before in
+    let typed = calls-promises .named-layer (a .number) (a .datatype) (a .name .now) (number-in (a .number) (start .good .1 .1 .0)) (type-in (a .datatype) (start .good .1 .1 .1 .0)) (λ i. k .shared-slice-known .given i .fits) in
+    (call-refused (a .buf .now) (a .place) (givenLayer (a .number) (a .datatype) (some (a .name .now))) (f .plan-named .result) (c .refusal .result) (c .refusal .ensures) (f .plan-named .ensures (a .number) (a .datatype)) (c .before .if1 .taken), typed)
 
 store-named-requires : tie.Need-store-named-requires
 store-named-requires c κs =
@@ -54,9 +59,14 @@ returns-2 c =
     let s = c .before .before .before in
     let i = s .before .before in
     let f = i .before in
-    let a = f .before .before .before .args in
-    call-taken (a .buf .now) (s .store-named .last .0) (a .place) (c .place-after .result) (givenLayer (a .number) (a .datatype) (some (a .name .now))) (f .plan-named .result) (10 + length (a .name .now) / 2 * 2) (f .plan-named .ensures (a .number) (a .datatype)) (i .if1 .left) (named-size (a .number) (a .datatype) (a .name .now)) (c .place-after .ensures)
-    (s .store-named .ensures)
+    let start = f .before .before .before in
+    let a = start .args in
+    let k = f .before in
+    let typed = calls-promises .named-layer (a .number) (a .datatype) (a .name .now) (number-in (a .number) (start .good .1 .1 .0)) (type-in (a .datatype) (start .good .1 .1 .1 .0)) (λ i. k .shared-slice-known .given i .fits) in (
+      call-taken (a .buf .now) (s .store-named .last .0) (a .place) (c .place-after .result) (givenLayer (a .number) (a .datatype) (some (a .name .now))) (f .plan-named .result) (10 + length (a .name .now) / 2 * 2) (f .plan-named .ensures (a .number) (a .datatype)) (i .if1 .left) (named-size (a .number) (a .datatype) (a .name .now)) (c .place-after .ensures)
+          (s .store-named .ensures),
+      typed,
+    )
 
 pub named-layer-spec : {M : Type 1} → statement M
 named-layer-spec =

@@ -11,6 +11,8 @@ use Rattle.cgx_put.specs.Put.{put}
 use Rattle.cgx_writing.specs.Given.{written, givenProperty}
 use Rattle.cgx_writing.proofs.Widths.{property-size}
 use Rattle.cgx_plans.proofs.Order.{call-refused, call-taken, call-fits}
+use Rattle.cgx_writing.proofs.Calling.{calls-promises}
+use Rattle.cgx_writing.proofs.Ranges.{long-in}
 use borrow.Author.Needs.{needs}
 use Rattle.cgx_writer.proofs.property.Statement.{statement}
 use Rattle.cgx_writer.proofs.property.Tie as tie
@@ -24,9 +26,12 @@ refusal-requires c κs = search needs
 returns : tie.Need-returns
 returns c =
     let f = c .before .before in
-    let a = f .before .before .before .args in
+    let start = f .before .before .before in
+    let a = start .args in
+    let k = f .before in
+    let typed = calls-promises .property (a .number) (a .value .now) (long-in (a .number) (start .fits .number .sfits)) (λ i. k .shared-slice-known .given i .fits) in
     let g = givenProperty (a .number) (a .value .now) in
-    call-refused (a .buf .now) (a .place) g (f .plan-property .result) (c .refusal .result) (c .refusal .ensures) (f .plan-property .ensures (a .number)) (c .before .if1 .taken)
+    (call-refused (a .buf .now) (a .place) g (f .plan-property .result) (c .refusal .result) (c .refusal .ensures) (f .plan-property .ensures (a .number)) (c .before .if1 .taken), typed)
 
 store-property-requires : tie.Need-store-property-requires
 store-property-requires c κs =
@@ -62,10 +67,15 @@ returns-2 c =
     let s = c .before .before .before in
     let i = s .before .before in
     let f = i .before in
-    let a = f .before .before .before .args in
-    let g = givenProperty (a .number) (a .value .now) in
-    call-taken (a .buf .now) (s .store-property .last .0) (a .place) (c .place-after .result) g (f .plan-property .result) (10 + length (a .value .now) / 2 * 2) (f .plan-property .ensures (a .number)) (i .if1 .left) (property-size (a .number) (a .value .now)) (c .place-after .ensures)
-    (s .store-property .ensures ∙ ap (λ (z : ℤ). put (a .buf .now) (a .place .at) (bytesOf (written (givenProperty z (a .value .now))))) (toZ-ofZ w32 (a .number) (f .before .before .before .fits .number)))
+    let start = f .before .before .before in
+    let a = start .args in
+    let k = f .before in
+    let typed = calls-promises .property (a .number) (a .value .now) (long-in (a .number) (start .fits .number .sfits)) (λ i. k .shared-slice-known .given i .fits) in
+    let g = givenProperty (a .number) (a .value .now) in (
+      call-taken (a .buf .now) (s .store-property .last .0) (a .place) (c .place-after .result) g (f .plan-property .result) (10 + length (a .value .now) / 2 * 2) (f .plan-property .ensures (a .number)) (i .if1 .left) (property-size (a .number) (a .value .now)) (c .place-after .ensures)
+          (s .store-property .ensures ∙ ap (λ (z : ℤ). put (a .buf .now) (a .place .at) (bytesOf (written (givenProperty z (a .value .now))))) (toZ-ofZ w32 (a .number) (f .before .before .before .fits .number))),
+      typed,
+    )
 
 pub property-spec : {M : Type 1} → statement M
 property-spec =

@@ -12,6 +12,8 @@ use Rattle.cgx_writing.specs.Given.{written, givenSref}
 use Rattle.cgx_writing.specs.Srefs.{srefSize}
 use Rattle.cgx_writing.proofs.Srefs.{sref-size}
 use Rattle.cgx_plans.proofs.Order.{call-refused, call-taken, call-fits}
+use Rattle.cgx_writing.proofs.Calling.{calls-promises}
+use Rattle.cgx_writing.proofs.Ranges.{grid-in, point-in}
 use borrow.Author.Needs.{needs}
 use Rattle.cgx_writer.proofs.sref.Statement.{statement}
 use Rattle.cgx_writer.proofs.sref.Tie as tie
@@ -25,8 +27,11 @@ refusal-requires c κs = search needs
 returns : tie.Need-returns
 returns c =
     let f = c .before .before in
-    let a = f .before .before .before .before .args in
-    call-refused (a .buf .now) (a .place) (givenSref (a .flags) (a .at) (a .t5) (a .t6) (a .grid) (a .name .now)) (f .plan-sref .result) (c .refusal .result) (c .refusal .ensures) (f .plan-sref .ensures (a .at) (a .t5)) (c .before .if1 .taken)
+    let start = f .before .before .before .before in
+    let a = start .args in
+    let k = f .before .before in
+    let typed = calls-promises .sref (a .flags) (a .at) (a .t5) (a .t6) (a .grid) (a .name .now) (start .fits .flags .fits) (point-in (a .at) (start .good .1 .1 .1 .0)) (grid-in (a .grid) (start .good .1 .1 .1 .1 .1 .1 .0)) (λ i. k .shared-slice-known .given i .fits) in
+    (call-refused (a .buf .now) (a .place) (givenSref (a .flags) (a .at) (a .t5) (a .t6) (a .grid) (a .name .now)) (f .plan-sref .result) (c .refusal .result) (c .refusal .ensures) (f .plan-sref .ensures (a .at) (a .t5)) (c .before .if1 .taken), typed)
 
 store-sref-requires : tie.Need-store-sref-requires
 store-sref-requires c κs =
@@ -60,11 +65,16 @@ returns-2 c =
     let x = y .before in
     let i = x .before in
     let f = i .before in
-    let a = f .before .before .before .before .args in
-    call-taken (a .buf .now) (s .store-sref .last .0) (a .place) (c .place-after .result) (givenSref (a .flags) (a .at) (a .t5) (a .t6) (a .grid) (a .name .now)) (f .plan-sref .result) (z .sref-size .result) (f .plan-sref .ensures (a .at) (a .t5)) (i .if1 .left) (z .sref-size .ensures ∙ sref-size (a .flags) (a .at) (a .t5) (a .t6) (a .grid) (a .name .now)) (c .place-after .ensures)
-    (s .store-sref .ensures
-    ∙ ap (λ (v : ℤ). put (a .buf .now) (a .place .at) (bytesOf (written (givenSref (a .flags) (record { x = v; y = toZ w32 (ofZ w32 (a .at .y)) }) (a .t5) (a .t6) (a .grid) (a .name .now))))) (toZ-ofZ w32 (a .at .x) (record { sfits = x .struct-told .given .0 .1 }))
-    ∙ ap (λ (v : ℤ). put (a .buf .now) (a .place .at) (bytesOf (written (givenSref (a .flags) (record { x = a .at .x; y = v }) (a .t5) (a .t6) (a .grid) (a .name .now))))) (toZ-ofZ w32 (a .at .y) (record { sfits = y .struct-told2 .given .1 .0 .1 })))
+    let start = f .before .before .before .before in
+    let a = start .args in
+    let k = f .before .before in
+    let typed = calls-promises .sref (a .flags) (a .at) (a .t5) (a .t6) (a .grid) (a .name .now) (start .fits .flags .fits) (point-in (a .at) (start .good .1 .1 .1 .0)) (grid-in (a .grid) (start .good .1 .1 .1 .1 .1 .1 .0)) (λ i. k .shared-slice-known .given i .fits) in (
+      call-taken (a .buf .now) (s .store-sref .last .0) (a .place) (c .place-after .result) (givenSref (a .flags) (a .at) (a .t5) (a .t6) (a .grid) (a .name .now)) (f .plan-sref .result) (z .sref-size .result) (f .plan-sref .ensures (a .at) (a .t5)) (i .if1 .left) (z .sref-size .ensures ∙ sref-size (a .flags) (a .at) (a .t5) (a .t6) (a .grid) (a .name .now)) (c .place-after .ensures)
+          (s .store-sref .ensures
+          ∙ ap (λ (v : ℤ). put (a .buf .now) (a .place .at) (bytesOf (written (givenSref (a .flags) (record { x = v; y = toZ w32 (ofZ w32 (a .at .y)) }) (a .t5) (a .t6) (a .grid) (a .name .now))))) (toZ-ofZ w32 (a .at .x) (record { sfits = x .struct-told .given .0 .1 }))
+          ∙ ap (λ (v : ℤ). put (a .buf .now) (a .place .at) (bytesOf (written (givenSref (a .flags) (record { x = a .at .x; y = v }) (a .t5) (a .t6) (a .grid) (a .name .now))))) (toZ-ofZ w32 (a .at .y) (record { sfits = y .struct-told2 .given .1 .0 .1 }))),
+      typed,
+    )
 
 pub sref-spec : {M : Type 1} → statement M
 sref-spec =

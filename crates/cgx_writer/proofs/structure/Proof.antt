@@ -5,6 +5,8 @@ use lib.ListN.{length}
 use Rattle.cgx_writing.specs.Given.{givenStruct}
 use Rattle.cgx_writing.proofs.Widths.{struct-size}
 use Rattle.cgx_plans.proofs.Order.{call-refused, call-taken, call-fits}
+use Rattle.cgx_writing.proofs.Calling.{calls-promises}
+use Rattle.cgx_writing.proofs.Ranges.{date-in}
 use borrow.Author.Needs.{needs}
 use Rattle.cgx_writer.proofs.structure.Statement.{statement}
 use Rattle.cgx_writer.proofs.structure.Tie as tie
@@ -18,9 +20,12 @@ refusal-requires c κs = search needs
 returns : tie.Need-returns
 returns c =
     let f = c .before .before in
-    let a = f .before .before .before .args in
+    let start = f .before .before .before in
+    let a = start .args in
+    let k = f .before in
+    let typed = calls-promises .struct (a .created) (a .modified) (a .name .now) (date-in (a .created) (start .good .1 .1 .0)) (date-in (a .modified) (start .good .1 .1 .1 .0)) (λ i. k .shared-slice-known .given i .fits) in
     let g = givenStruct (a .created) (a .modified) (a .name .now) in
-    call-refused (a .buf .now) (a .place) g (f .plan-struct .result) (c .refusal .result) (c .refusal .ensures) (f .plan-struct .ensures) (c .before .if1 .taken)
+    (call-refused (a .buf .now) (a .place) g (f .plan-struct .result) (c .refusal .result) (c .refusal .ensures) (f .plan-struct .ensures) (c .before .if1 .taken), typed)
 
 store-struct-requires : tie.Need-store-struct-requires
 store-struct-requires c κs =
@@ -56,10 +61,15 @@ returns-2 c =
     let s = c .before .before .before in
     let i = s .before .before in
     let f = i .before in
-    let a = f .before .before .before .args in
-    let g = givenStruct (a .created) (a .modified) (a .name .now) in
-    call-taken (a .buf .now) (s .store-struct .last .0) (a .place) (c .place-after .result) g (f .plan-struct .result) (22 + length (a .name .now) / 2 * 2) (f .plan-struct .ensures) (i .if1 .left) (struct-size (a .created) (a .modified) (a .name .now)) (c .place-after .ensures)
-    (s .store-struct .ensures)
+    let start = f .before .before .before in
+    let a = start .args in
+    let k = f .before in
+    let typed = calls-promises .struct (a .created) (a .modified) (a .name .now) (date-in (a .created) (start .good .1 .1 .0)) (date-in (a .modified) (start .good .1 .1 .1 .0)) (λ i. k .shared-slice-known .given i .fits) in
+    let g = givenStruct (a .created) (a .modified) (a .name .now) in (
+      call-taken (a .buf .now) (s .store-struct .last .0) (a .place) (c .place-after .result) g (f .plan-struct .result) (22 + length (a .name .now) / 2 * 2) (f .plan-struct .ensures) (i .if1 .left) (struct-size (a .created) (a .modified) (a .name .now)) (c .place-after .ensures)
+          (s .store-struct .ensures),
+      typed,
+    )
 
 pub structure-spec : {M : Type 1} → statement M
 structure-spec =

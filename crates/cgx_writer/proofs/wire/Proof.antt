@@ -11,9 +11,14 @@ use Rattle.cgx_put.specs.Put.{put}
 use Rattle.cgx_writing.specs.Given.{written, givenWire}
 use Rattle.cgx_plans.proofs.Order.{call-refused, call-taken, call-fits}
 use Rattle.cgx_writing.proofs.Sizes.{wire-size}
+use Rattle.cgx_writing.proofs.Calling.{calls-promises}
+use Rattle.cgx_writing.proofs.Ranges.{long-in, style-in}
 use borrow.Author.Needs.{needs}
 use Rattle.cgx_writer.proofs.wire.Statement.{statement}
 use Rattle.cgx_writer.proofs.wire.Tie as tie
+
+all-longs-requires : tie.Need-all-longs-requires
+all-longs-requires c κs = search needs
 
 plan-wire-requires : tie.Need-plan-wire-requires
 plan-wire-requires c κs = search needs
@@ -24,14 +29,17 @@ refusal-requires c κs = search needs
 returns : tie.Need-returns
 returns c =
     let f = c .before .before in
-    let a = f .before .before .args in
-    call-refused (a .buf .now) (a .place) (givenWire (a .style) (a .width) (a .points .now)) (f .plan-wire .result) (c .refusal .result) (c .refusal .ensures) (f .plan-wire .ensures (a .width)) (c .before .if1 .taken)
+    let start = f .before .before .before in
+    let a = start .args in
+    let k = f .before in
+    let typed = calls-promises .wire (a .style) (a .width) (a .points .now) (style-in (a .style) (start .good .1 .1 .0)) (long-in (a .width) (start .fits .width .sfits)) (k .all-longs .ensures) in
+    (call-refused (a .buf .now) (a .place) (givenWire (a .style) (a .width) (a .points .now)) (f .plan-wire .result) (c .refusal .result) (c .refusal .ensures) (f .plan-wire .ensures (a .width)) (c .before .if1 .taken), typed)
 
 store-wire-requires : tie.Need-store-wire-requires
 store-wire-requires c κs =
     let i = c .before in
     let f = i .before in
-    let a = f .before .before .args in
+    let a = f .before .before .before .args in
     let h = call-fits (length (a .buf .now)) (a .place) (givenWire (a .style) (a .width) (a .points .now)) (f .plan-wire .result) (8 + 4 * length (a .points .now)) (f .plan-wire .ensures (a .width)) (i .if1 .left) (wire-size (a .style) (a .width) (a .points .now)) in
     omega (arith, h .small, h .room)
 
@@ -45,7 +53,7 @@ place-after-requires : tie.Need-place-after-requires
 place-after-requires c κs =
     let i = c .before .before .before .before in
     let f = i .before in
-    let a = f .before .before .args in
+    let a = f .before .before .before .args in
     let h = call-fits (length (a .buf .now)) (a .place) (givenWire (a .style) (a .width) (a .points .now)) (f .plan-wire .result) (8 + 4 * length (a .points .now)) (f .plan-wire .ensures (a .width)) (i .if1 .left) (wire-size (a .style) (a .width) (a .points .now)) in
     let n = a .buf .now in
     (omega (arith, h .small, h .room), omega (arith, h .few, h .room))
@@ -59,14 +67,20 @@ returns-2 c =
     let s = c .before .before .before in
     let i = c .before .before .before .before .before in
     let f = i .before in
-    let a = f .before .before .args in
-    call-taken (a .buf .now) (s .store-wire .last .0) (a .place) (c .place-after .result) (givenWire (a .style) (a .width) (a .points .now)) (f .plan-wire .result) (8 + 4 * length (a .points .now)) (f .plan-wire .ensures (a .width)) (i .if1 .left) (wire-size (a .style) (a .width) (a .points .now)) (c .place-after .ensures)
-    (s .store-wire .ensures ∙ ap (λ (z : ℤ). put (a .buf .now) (a .place .at) (bytesOf (written (givenWire (a .style) z (a .points .now))))) (toZ-ofZ w32 (a .width) (f .before .before .fits .width)))
+    let start = f .before .before .before in
+    let a = start .args in
+    let k = f .before in
+    let typed = calls-promises .wire (a .style) (a .width) (a .points .now) (style-in (a .style) (start .good .1 .1 .0)) (long-in (a .width) (start .fits .width .sfits)) (k .all-longs .ensures) in (
+      call-taken (a .buf .now) (s .store-wire .last .0) (a .place) (c .place-after .result) (givenWire (a .style) (a .width) (a .points .now)) (f .plan-wire .result) (8 + 4 * length (a .points .now)) (f .plan-wire .ensures (a .width)) (i .if1 .left) (wire-size (a .style) (a .width) (a .points .now)) (c .place-after .ensures)
+          (s .store-wire .ensures ∙ ap (λ (z : ℤ). put (a .buf .now) (a .place .at) (bytesOf (written (givenWire (a .style) z (a .points .now))))) (toZ-ofZ w32 (a .width) (f .before .before .before .fits .width))),
+      typed,
+    )
 
 pub wire-spec : {M : Type 1} → statement M
 wire-spec =
     tie.close
     (tie.spec
+    all-longs-requires
     plan-wire-requires
     refusal-requires
     returns

@@ -27,7 +27,7 @@ returns c =
     let t = c .before .before .before .before .before .before .before .before in
     let s = t .args in
     let q : callIn (s .buf .now) (c .before .before .before .before .place-from .result) _ ≡ _ = λ i. callIn (s .buf .now) (c .before .before .before .before .place-from .result) (givenCprpty (back w32 {z = s .number} (t .fits .number .sfits) i) (s .value .now)) in
-    called (λ (p : Place). callIn (s .buf .now) p (givenCprpty (s .number) (s .value .now))) _ (c .plain-answer .ensures) (c .before .before .before .before .place-from .ensures) (c .before .before .before .cprpty .ensures ∙ q)
+    called (λ (p : Place). callIn (s .buf .now) p (givenCprpty (s .number) (s .value .now))) _ (c .plain-answer .ensures) (c .before .before .before .before .place-from .ensures) (c .before .before .before .cprpty .ensures .0 ∙ q)
 
 pub cgx-write-cprpty-spec : {M : Type 1} → statement M
 cgx-write-cprpty-spec =

@@ -22,7 +22,7 @@ same-length c = search needs
 returns : tie.Need-returns
 returns c =
     let s = c .before .before .before .before .before .before .before .args in
-    called (λ (p : Place). callIn (s .buf .now) p givenEndlib) _ (c .plain-answer .ensures) (c .before .before .before .before .place-from .ensures) (c .before .before .before .endlib .ensures)
+    called (λ (p : Place). callIn (s .buf .now) p givenEndlib) _ (c .plain-answer .ensures) (c .before .before .before .before .place-from .ensures) (c .before .before .before .endlib .ensures .0)
 
 pub cgx-write-endlib-spec : {M : Type 1} → statement M
 cgx-write-endlib-spec =

@@ -22,7 +22,7 @@ same-length c = search needs
 returns : tie.Need-returns
 returns c =
     let s = c .before .before .before .before .before .before .before .before .before .before .args in
-    called (λ (p : Place). callIn (s .buf .now) p (givenLibrary (s .version) (s .munit .bytes) (s .uunit .bytes) (s .created) (s .modified) (s .name .now))) _ (c .plain-answer .ensures) (c .before .before .before .before .place-from .ensures) (c .before .before .before .library .ensures)
+    called (λ (p : Place). callIn (s .buf .now) p (givenLibrary (s .version) (s .munit .bytes) (s .uunit .bytes) (s .created) (s .modified) (s .name .now))) _ (c .plain-answer .ensures) (c .before .before .before .before .place-from .ensures) (c .before .before .before .library .ensures .0)
 
 pub cgx-write-library-spec : {M : Type 1} → statement M
 cgx-write-library-spec =

@@ -23,7 +23,7 @@ same-length c = search needs
 returns : tie.Need-returns
 returns c =
     let s = c .before .before .before .before .before .before .before .before .args in
-    called (λ (p : Place). callIn (s .buf .now) p (givenLayer (s .number) (s .datatype) (some (s .name .now)))) _ (c .plain-answer .ensures) (c .before .before .before .before .place-from .ensures) (c .before .before .before .named-layer .ensures)
+    called (λ (p : Place). callIn (s .buf .now) p (givenLayer (s .number) (s .datatype) (some (s .name .now)))) _ (c .plain-answer .ensures) (c .before .before .before .before .place-from .ensures) (c .before .before .before .named-layer .ensures .0)
 
 pub cgx-write-named-layer-spec : {M : Type 1} → statement M
 cgx-write-named-layer-spec =

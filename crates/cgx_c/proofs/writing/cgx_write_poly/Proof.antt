@@ -22,7 +22,7 @@ same-length c = search needs
 returns : tie.Need-returns
 returns c =
     let s = c .before .before .before .before .before .before .before .args in
-    called (λ (p : Place). callIn (s .buf .now) p (givenPoly (s .points .now))) _ (c .plain-answer .ensures) (c .before .before .before .before .place-from .ensures) (c .before .before .before .poly .ensures)
+    called (λ (p : Place). callIn (s .buf .now) p (givenPoly (s .points .now))) _ (c .plain-answer .ensures) (c .before .before .before .before .place-from .ensures) (c .before .before .before .poly .ensures .0)
 
 pub cgx-write-poly-spec : {M : Type 1} → statement M
 cgx-write-poly-spec =

@@ -22,7 +22,7 @@ same-length c = search needs
 returns : tie.Need-returns
 returns c =
     let s = c .before .before .before .before .before .before .before .before .before .before .args in
-    called (λ (p : Place). callIn (s .buf .now) p (givenSref (s .flags) (s .at) (s .angle .bytes) (s .magnif .bytes) (s .grid) (s .name .now))) _ (c .plain-answer .ensures) (c .before .before .before .before .place-from .ensures) (c .before .before .before .sref .ensures)
+    called (λ (p : Place). callIn (s .buf .now) p (givenSref (s .flags) (s .at) (s .angle .bytes) (s .magnif .bytes) (s .grid) (s .name .now))) _ (c .plain-answer .ensures) (c .before .before .before .before .place-from .ensures) (c .before .before .before .sref .ensures .0)
 
 pub cgx-write-sref-spec : {M : Type 1} → statement M
 cgx-write-sref-spec =

@@ -26,7 +26,7 @@ returns c =
     let t = c .before .before .before .before .before .before .before in
     let s = t .args in
     let q : allIn (s .buf .now) (c .before .before .before .before .place-from .result) _ ≡ _ = λ i. allIn (s .buf .now) (c .before .before .before .before .place-from .result) (cardCalls (back w32 {z = s .left} (t .fits .left .sfits) i) (back w32 {z = s .bottom} (t .fits .bottom .sfits) i) (back w32 {z = s .right} (t .fits .right .sfits) i) (back w32 {z = s .top} (t .fits .top .sfits) i)) in
-    called (λ (p : Place). allIn (s .buf .now) p (cardCalls (s .left) (s .bottom) (s .right) (s .top))) _ (c .plain-answer .ensures) (c .before .before .before .before .place-from .ensures) (c .before .before .before .test-card .ensures ∙ q)
+    called (λ (p : Place). allIn (s .buf .now) p (cardCalls (s .left) (s .bottom) (s .right) (s .top))) _ (c .plain-answer .ensures) (c .before .before .before .before .place-from .ensures) (c .before .before .before .test-card .ensures .0 ∙ q)
 
 pub cgx-write-test-card-spec : {M : Type 1} → statement M
 cgx-write-test-card-spec =

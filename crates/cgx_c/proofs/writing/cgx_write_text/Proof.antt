@@ -27,7 +27,7 @@ returns c =
     let t = c .before .before .before .before .before .before .before .before in
     let s = t .args in
     let q : callIn (s .buf .now) (c .before .before .before .before .place-from .result) _ ≡ _ = λ i. callIn (s .buf .now) (c .before .before .before .before .place-from .result) (givenText (s .flags) (s .at) (back w32 {z = s .width} (t .fits .width .sfits) i) (s .label .now)) in
-    called (λ (p : Place). callIn (s .buf .now) p (givenText (s .flags) (s .at) (s .width) (s .label .now))) _ (c .plain-answer .ensures) (c .before .before .before .before .place-from .ensures) (c .before .before .before .text .ensures ∙ q)
+    called (λ (p : Place). callIn (s .buf .now) p (givenText (s .flags) (s .at) (s .width) (s .label .now))) _ (c .plain-answer .ensures) (c .before .before .before .before .place-from .ensures) (c .before .before .before .text .ensures .0 ∙ q)
 
 pub cgx-write-text-spec : {M : Type 1} → statement M
 cgx-write-text-spec =

@@ -28,7 +28,7 @@ returns c =
     let t = c .before .before .before .before .before .before .before in
     let s = t .args in
     let q : callIn (s .buf .now) (c .before .before .before .before .place-from .result) _ ≡ _ = λ i. callIn (s .buf .now) (c .before .before .before .before .place-from .result) (givenWire Unstated (back w32 {z = s .width} (t .fits .width .sfits) i) (s .points .now)) in
-    called (λ (p : Place). callIn (s .buf .now) p (givenWire Unstated (s .width) (s .points .now))) _ (c .plain-answer .ensures) (c .before .before .before .before .place-from .ensures) (c .before .before .before .wire .ensures ∙ q)
+    called (λ (p : Place). callIn (s .buf .now) p (givenWire Unstated (s .width) (s .points .now))) _ (c .plain-answer .ensures) (c .before .before .before .before .place-from .ensures) (c .before .before .before .wire .ensures .0 ∙ q)
 
 pub cgx-write-wire-spec : {M : Type 1} → statement M
 cgx-write-wire-spec =
