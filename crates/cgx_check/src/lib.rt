@@ -2,15 +2,14 @@
 ghost use mathlib.Core.Path.{_≡_};
 ghost use Rattle.cgx_spec.specs.Numbers.{Bytes};
 ghost use Rattle.cgx_spec.specs.Files.{verdictOf};
-ghost use Rattle.cgx_check.specs.Measure.{measureOf, taken};
+ghost use Rattle.cgx_headers.specs.Headers.{kindIn};
+ghost use Rattle.cgx_check.specs.Measure.{measured, measureOf, taken};
+use cgx_headers::RecordType;
+use cgx_headers::opening_fault;
+use cgx_judge::Judged;
+use cgx_judge::judge;
 use cgx_phases::Phase;
-use cgx_phases::fault_behind;
-use cgx_phases::has_ended;
-use cgx_phases::phase_after;
 use cgx_spec::Verdict;
-use cgx_steps::Head;
-use cgx_steps::head_at;
-use cgx_steps::opening_fault;
 
 // A verdict, with the length of the normal form of a file that is accepted.
 pub enum Measured {
@@ -42,36 +41,37 @@ pub fn measure(file: &[u8]) -> Measured
     let mut at: usize = 4;
     let mut length: usize = 4;
     loop {
-        if has_ended(p) {
-            if at == file.len() {
-                return Measured::Accepted { length };
-            }
-            return Measured::Refused { number: 13, at };
-        }
-        let found = head_at(file, at);
+        let found = judge(file, p, at);
         match found {
-            Head::Bad(number) => {
-                return Measured::Refused { number, at };
+            Judged::Stop(v) => {
+                return with_length(v, length);
             }
-            Head::Sized(n) => {
-                let from = at + 4;
-                let to = at + n;
-                let t = file[at + 2];
-                p = phase_after(p, t);
-                let number = fault_behind(p, t, file[at + 3], &file[from..to]);
-                if number != 0 {
-                    return Measured::Refused { number, at };
-                }
-                length += taken_by(t, n);
-                at += n;
+            Judged::Go(h, q) => {
+                let t = h.kind;
+                length += taken_by(t, h.size);
+                p = q;
+                at += h.size;
             }
         }
     }
 }
 
-// The bytes that a record takes in the normal form: an unknown one takes none.
-pub fn taken_by(t: u8, size: usize) -> usize
-    ensures { λ r. ⌜ r ≡ taken t size ⌝ }
+// A verdict with the length of the normal form.
+fn with_length(v: Verdict, length: usize) -> Measured
+    ensures { λ r. ⌜ r ≡ measured v length ⌝ }
 {
-    if t < 11 { size } else { 0 }
+    match v {
+        Verdict::Accepted => Measured::Accepted { length },
+        Verdict::Refused { number, at } => Measured::Refused { number, at },
+    }
+}
+
+// The bytes that a record takes in the normal form: an unknown one takes none.
+fn taken_by(t: RecordType, size: usize) -> usize
+    ensures { λ r. ⌜ r ≡ taken (kindIn t) size ⌝ }
+{
+    match t {
+        RecordType::Known(_) => size,
+        RecordType::Unknown => 0,
+    }
 }

@@ -1,5 +1,4 @@
 pub mod Hulls
-pub mod Searches
-pub mod Turns
+pub mod Cells
 pub mod Examples
 pub mod Demand

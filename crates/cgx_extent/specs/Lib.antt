@@ -1,4 +1,4 @@
--- The extent of a cell, and what is proved of it; `Search` has what the code carries from record to record.
-pub mod Extent
-pub mod Search
+-- The extent of a cell. `Demand` says what is proved of it; start there. `Cells` has what the loops over a sequence answer.
 pub mod Demand
+pub mod Extent
+pub mod Cells

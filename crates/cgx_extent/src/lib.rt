@@ -1,28 +1,23 @@
-// The extent of a cell: the least rectangle around its boxes, polygon points and wire points. One walk judges the records and
-// looks for the cell, so that a file is read once only.
+// The extent of a cell: the least rectangle around its boxes, polygon points and wire points. The file is checked first; then its known
+// records are gone through, up to the end of the cell.
 ghost use mathlib.Core.Path.{_≡_};
-ghost use mathlib.Core.List.{[]};
-ghost use Prim.Native.Nat.{_+_, _≤_};
+ghost use Prim.Native.Nat.{_≤_};
 ghost use lib.ListN.{length, drop};
 ghost use Rattle.cgx_spec.specs.Numbers.{longsOf};
-ghost use Rattle.cgx_spec.specs.declared.Verdict.the-variants.{Accepted};
-ghost use Rattle.cgx_spec.specs.Kinds.{kindOf};
-ghost use Rattle.cgx_extent.specs.Extent.{shareOf, pairs, minZ, maxZ, wider as widerBy, widest, answerOn, extentOf};
-ghost use Rattle.cgx_extent.specs.Search.{shareIf, hullFrom, entered as enteredAt, after, foundIn};
+ghost use Rattle.cgx_spec.specs.Files.{Accepted};
+ghost use Rattle.cgx_sequence.specs.Sequence.{Along};
+ghost use Rattle.cgx_extent.specs.Extent.{shareOf, pairs, minZ, maxZ, wider as widerBy, widest, extentOf};
+ghost use Rattle.cgx_extent.specs.Cells.{hullFrom, CellIn, HullIn};
+use cgx_check::check;
 use cgx_kinds::Point;
 use cgx_kinds::Poly;
 use cgx_kinds::Wire;
 use cgx_numbers::long_at;
-use cgx_phases::Phase;
-use cgx_phases::fault_behind;
-use cgx_phases::has_ended;
-use cgx_phases::phase_after;
-use cgx_records::kind_of;
+use cgx_sequence::Next;
+use cgx_sequence::next_known;
 use cgx_spec::Kind;
 use cgx_spec::Offset;
-use cgx_steps::Head;
-use cgx_steps::head_at;
-use cgx_steps::opening_fault;
+use cgx_spec::Verdict;
 
 #[repr(C)]
 pub struct Sides {
@@ -51,120 +46,100 @@ pub enum Share {
     Neither,
 }
 
-// Where a walk stands towards the cell: so many cells before it, inside or behind it with the rectangle so far.
-enum Search {
-    Before(usize),
-    Inside(Rectangle),
-    Behind(Rectangle),
+// Where the records of a cell begin, if there is such a cell.
+enum CellStart {
+    Missing,
+    From(usize),
 }
 
 // The extent of cell k of a file, from 0: the file's refusal, or 16 where it has no such cell.
 pub fn extent(file: &[u8], k: usize) -> CellExtent
     ensures { λ r. ⌜ r ≡ extentOf (now (file .entry)) k ⌝ }
 {
-    let number = opening_fault(file);
-    if number != 0 {
-        return CellExtent::Refused {
+    let found = check(file);
+    match found {
+        Verdict::Refused { number, at } => CellExtent::Refused {
             number,
-            at: Offset::At(0),
-        };
+            at: Offset::At(at),
+        },
+        Verdict::Accepted => {
+            let cell = cell_start(file, k);
+            match cell {
+                CellStart::Missing => CellExtent::Refused {
+                    number: 16,
+                    at: Offset::Nowhere,
+                },
+                CellStart::From(at) => CellExtent::Found(hull_of(file, at)),
+            }
+        }
     }
-    let mut p = Phase::Start;
+}
+
+// After the STRUCT of cell k.
+fn cell_start(file: &[u8], k: usize) -> CellStart
+    requires { ⌜ Accepted (now file) ⌝ }
+    ensures { λ r. ⌜ CellIn (now (file .entry)) k r ⌝ }
+{
     let mut at: usize = 4;
-    let mut search = Search::Before(k);
+    let mut left = k;
     loop {
-        if has_ended(p) {
-            if at == file.len() {
-                return answer(search);
+        let next = next_known(file, at);
+        match next {
+            Next::End => {
+                return CellStart::Missing;
             }
-            return CellExtent::Refused {
-                number: 13,
-                at: Offset::At(at),
-            };
-        }
-        let found = head_at(file, at);
-        match found {
-            Head::Bad(number) => {
-                return CellExtent::Refused {
-                    number,
-                    at: Offset::At(at),
-                };
-            }
-            Head::Sized(n) => {
-                let from = at + 4;
-                let to = at + n;
-                let t = file[at + 2];
-                p = phase_after(p, t);
-                let number = fault_behind(p, t, file[at + 3], &file[from..to]);
-                if number != 0 {
-                    return CellExtent::Refused {
-                        number,
-                        at: Offset::At(at),
-                    };
+            Next::Found(r) => {
+                at = r.at + r.size;
+                let kind = r.kind;
+                let share = share_in(kind);
+                match share {
+                    Share::Opens => {
+                        if left == 0 {
+                            return CellStart::From(at);
+                        }
+                        left -= 1;
+                    }
+                    Share::Points(_) => {}
+                    Share::Neither => {}
                 }
-                search = past(search, t, &file[from..to]);
-                at += n;
             }
         }
     }
 }
 
-// Of a file that is accepted: 16 where it has no such cell.
-fn answer(s: Search) -> CellExtent
-    ensures { λ r. ⌜ r ≡ answerOn Accepted (foundIn s []) ⌝ }
+// Around the points of the records up to the next STRUCT.
+fn hull_of(file: &[u8], from: usize) -> Rectangle
+    requires { ⌜ Along (now file) from ⌝ }
+    ensures { λ r. ⌜ HullIn (now (file .entry)) from r ⌝ }
 {
-    match s {
-        Search::Before(_) => CellExtent::Refused {
-            number: 16,
-            at: Offset::Nowhere,
-        },
-        Search::Inside(r) => CellExtent::Found(r),
-        Search::Behind(r) => CellExtent::Found(r),
+    let mut at = from;
+    let mut hull = Rectangle::Nothing;
+    loop {
+        let next = next_known(file, at);
+        match next {
+            Next::End => {
+                return hull;
+            }
+            Next::Found(r) => {
+                let body = r.at + 4;
+                at = r.at + r.size;
+                let kind = r.kind;
+                let share = share_in(kind);
+                match share {
+                    Share::Opens => {
+                        return hull;
+                    }
+                    Share::Points(skip) => {
+                        hull = grown(hull, &file[body..at], skip);
+                    }
+                    Share::Neither => {}
+                }
+            }
+        }
     }
 }
 
-// ---- one record
-
-fn past(s: Search, t: u8, b: &[u8]) -> Search
-    requires { ⌜ length (now b) ≤ 65530 ⌝ }
-    ensures { λ r. ⌜ r ≡ after s (shareIf (kindOf t)) (now (b .entry)) ⌝ }
-{
-    let share = share_of(t);
-    match s {
-        Search::Before(k) => match share {
-            Share::Opens => entered(k),
-            Share::Points(_) => s,
-            Share::Neither => s,
-        },
-        Search::Inside(r) => match share {
-            Share::Opens => Search::Behind(r),
-            Share::Points(from) => Search::Inside(grown(r, b, from)),
-            Share::Neither => s,
-        },
-        Search::Behind(_) => s,
-    }
-}
-
-// A STRUCT with so many more cells before the one that is asked for.
-fn entered(k: usize) -> Search
-    ensures { λ r. ⌜ r ≡ enteredAt k ⌝ }
-{
-    if k == 0 {
-        return Search::Inside(Rectangle::Nothing);
-    }
-    Search::Before(k - 1)
-}
-
-fn share_of(t: u8) -> Share
-    ensures { λ r. ⌜ r ≡ shareIf (kindOf t) ⌝ }
-{
-    if t < 11 {
-        return share_in(kind_of(t));
-    }
-    Share::Neither
-}
-
-// A wire's points stand behind its width.
+// A wire's points come after its width.
 fn share_in(k: Kind) -> Share
     ensures { λ r. ⌜ r ≡ shareOf k ⌝ }
 {

@@ -1,6 +1,6 @@
 -- Four bytes that are not `cgx`, and then a LAYER: named `ab`, with an empty name, without a name, and with a name that is no string. The definitions compute them.
 use mathlib.Core.Path.{_≡_, refl}
-use mathlib.Core.List.{List, [], _∷_, _++_}
+use mathlib.Core.List.{List, [], _∷_}
 use Prim.Native.Nat.{ℕ}
 use Rattle.cgx_spec.specs.Strings.{textOf, padded, same, goodString}
 use Rattle.cgx_spec.specs.Fields.{fits, width, ruleOf, good, pieces, lengthsFit, keeps}

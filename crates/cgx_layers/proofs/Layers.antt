@@ -11,22 +11,24 @@ use lib.Seq.{drop-drop, drop-at, take-add, length-take-le, getD-take, getD-drop}
 use Rattle.cgx_spec.specs.declared.Kind.the-variants.{Layer}
 use Rattle.cgx_spec.specs.Strings.{textOf}
 use Rattle.cgx_spec.specs.Fields.{ruleOf, pieces, lengthsFit, keeps}
-use Rattle.cgx_spec.specs.Kinds.{layout}
+use Rattle.cgx_spec.specs.Kinds.{kindOf, layout}
 use Rattle.cgx_spec.specs.Records.{piecesOf, rule, broken}
 use Rattle.cgx_spec.specs.Files.{found, cut}
 use Rattle.cgx_spec.specs.Walking.{recAt}
 use Rattle.cgx_spec.proofs.Lists.{true→T}
 use Rattle.cgx_bodies.specs.Bodies.{numberOr0, bodyFault}
-use Rattle.cgx_steps.specs.Steps.{cutMeant, HeadIn}
-use Rattle.cgx_steps.specs.declared.Head.{Head}
-use Rattle.cgx_steps.specs.declared.Head.the-variants.{Bad, Sized}
-use Rattle.cgx_steps.proofs.Heads.{head-3, head-held}
+use Rattle.cgx_headers.specs.declared.Header.{Header}
+use Rattle.cgx_headers.specs.declared.Headed.{Headed}
+use Rattle.cgx_headers.specs.declared.Headed.the-variants.{Bad, Good}
+use Rattle.cgx_headers.specs.Headers.{kindIn, cutMeant, HeaderAt, Heads}
+use Rattle.cgx_headers.proofs.HeaderLaws.{kind-says, flags-say}
+use Rattle.cgx_headers.proofs.Heads.{head-3, header-in}
 use Rattle.cgx_views.specs.Views.{StringAt, OptionalAt}
 use Rattle.cgx_views.proofs.Texts.{ends}
 use Rattle.cgx_views.proofs.Ready.{layer-ready}
 use Rattle.cgx_layers.specs.declared.Shown.{Shown}
 use Rattle.cgx_layers.specs.declared.Shown.the-variants.{OfFile, OfSubstitute}
-use Rattle.cgx_layers.specs.Layers.{keptLayer, cutLayer, goodLayer, layerAnswer, nameIn, named, shownOf, shownText, shownPtr, ShownIn, LayerAt, Stands}
+use Rattle.cgx_layers.specs.Layers.{keptLayer, cutLayer, goodLayer, layerAnswer, nameIn, named, shownOf, shownText, shownPtr, ShownIn, LayerAt, Stands, isLayer}
 
 -- ---- the rules 8 to 12 of a LAYER: 9, 10 and 12 have nothing to say
 
@@ -56,6 +58,23 @@ a-fault true true e = absurd (e refl)
 a-fault true false e = refl
 a-fault false d e = refl
 
+-- ---- a type that is LAYER's
+
+layer-type : (t : ℕ) → isLayer (kindOf t) ≡ eqb t 4
+unfolding kindOf
+layer-type zero = refl
+layer-type (suc zero) = refl
+layer-type (suc (suc zero)) = refl
+layer-type (suc (suc (suc zero))) = refl
+layer-type (suc (suc (suc (suc zero)))) = refl
+layer-type (suc (suc (suc (suc (suc zero))))) = refl
+layer-type (suc (suc (suc (suc (suc (suc zero)))))) = refl
+layer-type (suc (suc (suc (suc (suc (suc (suc zero))))))) = refl
+layer-type (suc (suc (suc (suc (suc (suc (suc (suc zero)))))))) = refl
+layer-type (suc (suc (suc (suc (suc (suc (suc (suc (suc zero))))))))) = refl
+layer-type (suc (suc (suc (suc (suc (suc (suc (suc (suc (suc zero)))))))))) = refl
+layer-type (suc (suc (suc (suc (suc (suc (suc (suc (suc (suc (suc t))))))))))) = sym (ne-eqb (suc (suc (suc (suc (suc (suc (suc (suc (suc (suc (suc t))))))))))) 4 (λ z. omega arith))
+
 -- ---- a good LAYER, test by test
 
 abbrev tests : Bool → Bool → Bool → Bool
@@ -84,49 +103,61 @@ module _ (f : List ℕ) (at : ℕ) where
 
       pub beyond : length f < at → Stands f at 0
       unfolding Stands cutMeant cutLayer
-      beyond l = even ∙ ap cutLayer (head-3 f at (omega arith) .0)
+      beyond l = even ∙ ap cutLayer (head-3 f at (omega arith) .cuts)
 
-      module _ (hd : Head) (d : (cut (drop at f) ≡ cutMeant f at hd) × HeadIn f at hd) where
+      module _ (hd : Headed) (d : Heads f at hd) where
         pub no-record : {k : ℕ} → hd ≡ Bad k → Stands f at 0
         unfolding Stands cutMeant cutLayer
-        no-record q = even ∙ ap cutLayer (d .0 ∙ ap (cutMeant f at) q)
+        no-record q = even ∙ ap cutLayer (d .cuts ∙ ap (cutMeant f at) q)
 
-        module _ {n : ℕ} (q : hd ≡ Sized n) where
+        module _ {r : Header} (q : hd ≡ Good r) where
+          abbrev n : ℕ
+          n = r .size
+
           abbrev body : List ℕ
           body = take (n - 4) (drop (at + 4) f)
 
           cut-is : cut (drop at f) ≡ found (recAt f at n) (drop (at + n) f)
           unfolding cutMeant
-          cut-is = d .0 ∙ ap (cutMeant f at) q
+          cut-is = d .cuts ∙ ap (cutMeant f at) q
 
           by-record : goodLayer f at ≡ tests (eqb (getD f (at + 2) 0) 4) (fit (getD f (at + 3) 0) body) (texts (getD f (at + 3) 0) body)
           unfolding cutLayer keptLayer recAt piecesOf
           by-record = even ∙ ap cutLayer cut-is
 
-          pub other-type : (getD f (at + 2) 0 ≡ 4 → ⊥) → Stands f at 0
-          unfolding Stands
-          other-type t =
-              by-record ∙ ap (λ (x : Bool). tests x (fit (getD f (at + 3) 0) body) (texts (getD f (at + 3) 0) body)) (ne-eqb (getD f (at + 2) 0) 4 t)
+          header : HeaderAt f at r
+          header = header-in f at d q
 
-          module _ (t : getD f (at + 2) 0 ≡ 4) {k : ℕ} (z : k ≡ bodyFault Layer (getD f (at + 3) 0) (take (at + n - (at + 4)) (drop (at + 4) f))) where
+          -- by the kind of the header
+          type-is : {v : Bool} → v ≡ isLayer (kindIn (r .kind)) → eqb (getD f (at + 2) 0) 4 ≡ v
+          type-is w = sym (w ∙ ap isLayer (kind-says f at (header .read)) ∙ layer-type (getD f (at + 2) 0))
+
+          pub other-type : {v : Bool} → v ≡ isLayer (kindIn (r .kind)) → v ≡ false → Stands f at 0
+          unfolding Stands
+          other-type w t =
+              by-record ∙ ap (λ (x : Bool). tests x (fit (getD f (at + 3) 0) body) (texts (getD f (at + 3) 0) body)) (type-is w ∙ t)
+
+          module _ {v : Bool} (w : v ≡ isLayer (kindIn (r .kind))) (t : v ≡ true) {k : ℕ} (z : k ≡ bodyFault Layer (r .flags) (take (at + n - (at + 4)) (drop (at + 4) f))) where
             fault : k ≡ first-of (fit (getD f (at + 3) 0) body) (texts (getD f (at + 3) 0) body)
             fault =
                 let e : at + n - (at + 4) ≡ n - 4 = omega arith in
-                z ∙ ap (λ (m : ℕ). bodyFault Layer (getD f (at + 3) 0) (take m (drop (at + 4) f))) e ∙ fault-is (getD f (at + 3) 0) body
+                z ∙ ap (λ (m : ℕ). bodyFault Layer (r .flags) (take m (drop (at + 4) f))) e
+                ∙ ap (λ (m : ℕ). bodyFault Layer m body) (flags-say f at (header .read))
+                ∙ fault-is (getD f (at + 3) 0) body
 
             typed : goodLayer f at ≡ tests true (fit (getD f (at + 3) 0) body) (texts (getD f (at + 3) 0) body)
-            typed = by-record ∙ ap (λ (x : Bool). tests x (fit (getD f (at + 3) 0) body) (texts (getD f (at + 3) 0) body)) (eq-eqb (getD f (at + 2) 0) 4 t)
+            typed = by-record ∙ ap (λ (x : Bool). tests x (fit (getD f (at + 3) 0) body) (texts (getD f (at + 3) 0) body)) (type-is w ∙ t)
 
             pub faulty : (k ≡ 0 → ⊥) → Stands f at 0
             unfolding Stands
-            faulty w = typed ∙ a-fault (fit (getD f (at + 3) 0) body) (texts (getD f (at + 3) 0) body) (λ y. w (fault ∙ y))
+            faulty y = typed ∙ a-fault (fit (getD f (at + 3) 0) body) (texts (getD f (at + 3) 0) body) (λ x. y (fault ∙ x))
 
             pub stands : k ≡ 0 → Stands f at n
             unfolding recAt Stands
-            stands w =
+            stands y =
                 let fl = getD f (at + 3) 0 in
-                let g = no-fault (fit fl body) (texts fl body) (sym fault ∙ w) in
-                let i = head-held f at hd (d .1) q in
+                let g = no-fault (fit fl body) (texts fl body) (sym fault ∙ y) in
+                let i = header .held in
                 let good : goodLayer f at ≡ true = typed ∙ ap (λ (x : Bool). tests true x (texts fl body)) (g .0) ∙ ap (λ (x : Bool). tests true true x) (g .1) in
                 sized n (i .least) (record { readable = record { held = i; fits = g .0; texts = g .1 }; is = cut-is; kept = good })
               where

@@ -2,10 +2,12 @@
 use mathlib.Core.Path.{_≡_}
 use mathlib.Core.Bool.{Bool, true, false, _&&_, cond}
 use mathlib.Core.List.{List, []}
+use mathlib.Core.Option.{Option, none, some}
 use Prim.Native.Nat.{ℕ, zero, suc, _+_, _%_, _≤_}
 use lib.Dec.{leb, eqb}
 use lib.ListN.{length, take, drop, getD}
-use Rattle.cgx_spec.specs.declared.Kind.the-variants.{Layer}
+use Rattle.cgx_spec.specs.declared.Kind.{Kind}
+use Rattle.cgx_spec.specs.declared.Kind.the-variants.{Library, Struct, Cprpty, Property, Layer, Box, Poly, Wire, Text, Sref, Endlib}
 use Rattle.cgx_spec.specs.Strings.{textOf}
 use Rattle.cgx_spec.specs.Fields.{lengthsFit, keeps}
 use Rattle.cgx_spec.specs.Records.{Rec, piecesOf}
@@ -77,3 +79,18 @@ pub record LayerAt (f : List ℕ) (at n : ℕ) : Type 0 where
 unfoldable pub Stands : List ℕ → ℕ → ℕ → Type 0
 Stands f at zero = goodLayer f at ≡ false
 Stands f at (suc n) = LayerAt f at (suc n)
+
+-- The kind is LAYER's.
+abbrev pub isLayer : Option Kind → Bool
+isLayer none = false
+isLayer (some Library) = false
+isLayer (some Struct) = false
+isLayer (some Cprpty) = false
+isLayer (some Property) = false
+isLayer (some Layer) = true
+isLayer (some Box) = false
+isLayer (some Poly) = false
+isLayer (some Wire) = false
+isLayer (some Text) = false
+isLayer (some Sref) = false
+isLayer (some Endlib) = false

@@ -1,14 +1,18 @@
 // The name shown for a layer: a part of the file, or of a substitute text that the caller lends.
 ghost use mathlib.Core.Path.{_≡_};
+ghost use mathlib.Core.Option.{some};
 ghost use lib.ListN.{length, take, drop};
 ghost use Prim.Native.Nat.{_+_, _-_, _≤_};
 ghost use Rattle.cgx_spec.specs.Strings.{textOf};
+ghost use Rattle.cgx_headers.specs.Headers.{kindIn};
 ghost use Rattle.cgx_views.specs.Views.{OptionalAt};
-ghost use Rattle.cgx_layers.specs.Layers.{layerAnswer, shownOf, shownText, shownPtr, ShownIn, Stands};
-use cgx_bodies::layer_fault;
+ghost use Rattle.cgx_layers.specs.Layers.{layerAnswer, shownOf, shownText, shownPtr, ShownIn, Stands, isLayer};
+use cgx_headers::Headed;
+use cgx_headers::RecordType;
+use cgx_headers::header_at;
 use cgx_kinds::Layer;
-use cgx_steps::Head;
-use cgx_steps::head_at;
+use cgx_records::body_fault;
+use cgx_spec::Kind;
 
 // Which of the two texts is shown, and how much of it: of the file from an offset on, of the substitute from its beginning.
 pub enum Shown {
@@ -74,18 +78,48 @@ fn layer_size(file: &[u8], at: usize) -> usize
     if file.len() < at {
         return 0;
     }
-    let found = head_at(file, at);
+    let found = header_at(file, at);
     match found {
-        Head::Bad(_) => 0,
-        Head::Sized(n) => {
-            if file[at + 2] != 4 {
+        Headed::Bad(_) => 0,
+        Headed::Good(h) => {
+            let n = h.size;
+            let t = h.kind;
+            if !is_layer(t) {
                 return 0;
             }
-            let from = at + 4;
+            let from = at + Kind::HEADER_SIZE;
             let to = at + n;
-            let fault = layer_fault(&file[from..to], file[at + 3]);
+            // Not by `layer_fault`: with this second caller `body_fault` stays out of line, and the check's loop small.
+            let fault = body_fault(Kind::Layer, h.flags, &file[from..to]);
             if fault == 0 { n } else { 0 }
         }
+    }
+}
+
+fn is_layer(t: RecordType) -> bool
+    ensures { λ r. ⌜ r ≡ isLayer (kindIn t) ⌝ }
+{
+    match t {
+        RecordType::Known(k) => is_layer_kind(k),
+        RecordType::Unknown => false,
+    }
+}
+
+fn is_layer_kind(k: Kind) -> bool
+    ensures { λ r. ⌜ r ≡ isLayer (some k) ⌝ }
+{
+    match k {
+        Kind::Library => false,
+        Kind::Struct => false,
+        Kind::Cprpty => false,
+        Kind::Property => false,
+        Kind::Layer => true,
+        Kind::Box => false,
+        Kind::Poly => false,
+        Kind::Wire => false,
+        Kind::Text => false,
+        Kind::Sref => false,
+        Kind::Endlib => false,
     }
 }
 

@@ -1,31 +1,32 @@
 -- The listing of the rest of a file: what a record adds to it, what ends it, and how long it can be. Assumes nothing.
-use mathlib.Core.Path.{_≡_, refl, sym, ap, _∙_, subst}
-use mathlib.Core.Bool.{Bool, true, false, cond}
-use mathlib.Core.List.{List, [], _∷_, _++_, append-assoc}
+use mathlib.Core.Path.{_≡_, refl, sym, ap, _∙_}
+use mathlib.Core.Bool.{Bool, cond}
+use mathlib.Core.List.{List, [], _++_, append-assoc}
 use mathlib.Core.Option.{Option, none, some}
 use Prim.Native.Nat.{ℕ, zero, suc, _+_, _*_, _≤_, _<_}
 use native.Mathlib.Omega.{arith}
 use native.Mathlib.Nat.{zero-add}
 use borrow.Author.Tests.{lt-ltb, le-ltb}
-use lib.ListN.{length, drop, getD, length-append}
+use lib.ListN.{length, drop, length-append}
 use Rattle.cgx_spec.specs.declared.Kind.{Kind}
 use Rattle.cgx_spec.specs.declared.Kind.the-variants.{Library, Struct, Cprpty, Property, Layer, Box, Poly, Wire, Text, Sref, Endlib}
-use Rattle.cgx_spec.specs.declared.Context.{Context}
 use Rattle.cgx_spec.specs.declared.Verdict.{Verdict}
 use Rattle.cgx_spec.specs.declared.Verdict.the-variants.{Accepted as accepted, Refused as refused}
 use Rattle.cgx_spec.specs.Demands.{NamedFrom}
 use Rattle.cgx_spec.specs.Fields.{join}
 use Rattle.cgx_spec.specs.Kinds.{kindOf}
-use Rattle.cgx_spec.specs.Order.{start, next}
-use Rattle.cgx_spec.specs.Records.{Rec, Placed, View, faultOf, viewOf}
-use Rattle.cgx_spec.specs.Files.{Cut, bad, found, cut, Step, stop, go, settle, judge, finish, step, Walk, before, walk, opening, opened, begin, walkOf, verdictOf, ifSeen, views, viewsOf}
-use Rattle.cgx_spec.specs.Walking.{recAt, Held, walkFrom}
-use Rattle.cgx_spec.proofs.Loop.{from-stop}
-use Rattle.cgx_spec.proofs.Verdicts.{StepNamed, step-named}
-use Rattle.cgx_steps.specs.Steps.{stepMeant, StepIn}
-use Rattle.cgx_steps.specs.declared.Stepped.{Stepped}
-use Rattle.cgx_steps.specs.declared.Stepped.the-variants.{Stop, Go}
-use Rattle.cgx_steps.proofs.Walks.{held, walked-go}
+use Rattle.cgx_spec.specs.Records.{Placed, viewOf}
+use Rattle.cgx_spec.specs.Files.{stop, Walk, before, walk, opening, opened, begin, walkOf, verdictOf, ifSeen, views, viewsOf}
+use Rattle.cgx_spec.specs.Walking.{recAt}
+use Rattle.cgx_headers.specs.declared.Header.{Header}
+use Rattle.cgx_headers.specs.Headers.{kindIn}
+use Rattle.cgx_headers.proofs.HeaderLaws.{kind-says}
+use Rattle.cgx_phases.specs.declared.Phase.{Phase}
+use Rattle.cgx_phases.specs.declared.Phase.the-variants.{Start}
+use Rattle.cgx_judge.specs.declared.Judged.{Judged}
+use Rattle.cgx_judge.specs.declared.Judged.the-variants.{Stop, Go}
+use Rattle.cgx_judge.specs.Judging.{placedBy, Here, Judges}
+use Rattle.cgx_judge.proofs.Asking.{Asked, asked-start, asked-ends, asked-stop, asked-go, judged-good}
 use Rattle.cgx_put.proofs.Puts.{put-length, put-is}
 use Rattle.cgx_listing.specs.Ascii.{ascii}
 use Rattle.cgx_listing.specs.Listing.{decimal, nameOf, nameEnd, line, lineOf, lastLine, linesOf, listingOf, lineIf, Listed, Stored}
@@ -44,14 +45,6 @@ text-before p w = one (kindOf (p .rec .type))
     one : (o : Option Kind) → join lineOf (ifSeen o p (views (w .records))) ++ lastLine (w .verdict) ≡ lineIf o (p .at) ++ text w
     one none = refl
     one (some k) = append-assoc (line (p .at) k) (join lineOf (views (w .records))) (lastLine (w .verdict))
-
--- the listing from an offset and a context on
-unfoldable pub rest : List ℕ → Context → ℕ → List ℕ
-rest f c at = text (walkFrom f c at)
-
-pub began : (f : List ℕ) → opening f ≡ 0 → linesOf f ≡ rest f start 4
-unfolding linesOf viewsOf verdictOf walkOf walkFrom begin rest
-began f z = ap (λ (k : ℕ). text (walk (length f) (opened k (drop 4 f)))) z
 
 pub not-begun : (f : List ℕ) (k : ℕ) → k ≡ opening f → (k ≡ 0 → ⊥) → lastLine (refused k 0) ≡ linesOf f
 unfolding linesOf viewsOf verdictOf walkOf begin walk views
@@ -92,88 +85,60 @@ refusal-short n p h g =
     let d = length-append (ascii "refused ") (decimal n ++ (ascii " at " ++ (decimal p ++ ascii "\n"))) in
     omega (arith, decimal-short n h, decimal-short p g)
 
--- a refusal names the record's own offset
-abbrev Here : ℕ → Step → Type 0
-Here at (stop accepted) = Unit {0}
-Here at (stop (refused n p)) = p ≡ at
-Here at (go p bs) = Unit {0}
-
-here : (c : Context) (at : ℕ) (bs : List ℕ) → Here at (step c at bs)
-unfolding step judge settle finish
-here c at bs = one (c .ended) bs
-  where
-    three : (r : Rec) (rest : List ℕ) (o : Option ℕ) → Here at (settle c at r rest o)
-    three r rest none = tt
-    three r rest (some n) = refl
-
-    two : (x : Cut) → Here at (judge c at x)
-    two (bad n) = refl
-    two (found r rest) = three r rest (faultOf c r)
-
-    end : (bs : List ℕ) → Here at (stop (finish at bs))
-    end [] = tt
-    end (b ∷ bs) = refl
-
-    one : (z : Bool) (bs : List ℕ) → Here at (cond z (stop (finish at bs)) (judge c at (cut bs)))
-    one true bs = end bs
-    one false bs = two (cut bs)
-
-verdict-short : (v : Verdict) (at : ℕ) → at < 100000 → NamedFrom 3 v → Here at (stop v) → length (lastLine v) ≤ 23
+verdict-short : (v : Verdict) (at : ℕ) → at < 100000 → NamedFrom 3 v → Here at v → length (lastLine v) ≤ 23
 unfolding lastLine
 verdict-short accepted at h n e = omega arith
 verdict-short (refused k p) at h n e = refusal-short k p (omega arith) (let q : p ≡ at = e in omega arith)
 
--- ---- what is done and what is left
+-- ---- the question: the text done, and that of the rest of the walk
+
+abbrev pub ask : List ℕ → Walk → List ℕ
+ask done w = done ++ text w
 
 -- The text `done` is stored, and with the listing of the rest it is the whole. A record has 4 bytes or more, and its line 15 or fewer.
-pub record Begun (f : List ℕ) (c : Context) (at : ℕ) (out mid : List ℕ) (to : ℕ) : Type 0 where
+pub record Begun (f : List ℕ) (p : Phase) (at : ℕ) (out mid : List ℕ) (to : ℕ) : Type 0 where
   pub done : List ℕ
   pub stored : Stored out 0 done mid to
-  pub whole : done ++ rest f c at ≡ linesOf f
+  pub asked : Asked ask (linesOf f) f p at done
   pub short : 4 * to + 60 ≤ 15 * at
 
-pub begun-first : (f : List ℕ) {c : Context} (out : List ℕ) → opening f ≡ 0 → c ≡ start → Begun f c 4 out out 0
-begun-first f out z e =
-    record { done = []; stored = stored-none out 0 (omega arith); whole = ap (λ (x : Context). rest f x 4) e ∙ sym (began f z); short = omega arith }
+pub begun-first : (f : List ℕ) (out : List ℕ) → opening f ≡ 0 → Begun f Start 4 out out 0
+unfolding linesOf viewsOf verdictOf
+begun-first f out z =
+    record { done = []; stored = stored-none out 0 (omega arith); asked = asked-start ask (linesOf f) f [] z refl; short = omega arith }
 
-module _ (f : List ℕ) (c : Context) (at : ℕ) (out mid : List ℕ) (to : ℕ) (h : Begun f c at out mid to) (low : at ≤ 65536) (large : 262144 ≤ length out) where
+module _ (f : List ℕ) (p : Phase) (at : ℕ) (out mid : List ℕ) (to : ℕ) (h : Begun f p at out mid to) (low : at ≤ 65536) (large : 262144 ≤ length out) where
   mid-long : length mid ≡ length out
   mid-long = ap length (h .stored .bytes) ∙ put-length out 0 (h .done)
 
   pub line-room : (o : Option Kind) → to + length (lineIf o at) ≤ length mid
   line-room o = let s = h .short in omega (arith, line-short o at (omega arith), mid-long)
 
-  module _ {r : Stepped} (e : (step c at (drop at f) ≡ stepMeant f c at r) × StepIn f c at r) where
-    -- a record, known or unknown, and then the rest behind it
-    pub begun-go : {n : ℕ} {d : Context} {after : List ℕ} {next-to : ℕ} → r ≡ Go n → d ≡ next c at (kindOf (getD f (at + 2) 0)) → Stored mid to (lineIf (kindOf (getD f (at + 2) 0)) at) after next-to → Begun f d (at + n) out after next-to
-    unfolding rest recAt
-    begun-go {n} {d} {after} {next-to} q z s =
-        let l = lineIf (kindOf (getD f (at + 2) 0)) at in
-        let p : Placed = record { at = at; context = c; rec = recAt f at n } in
-        let w : rest f c at ≡ l ++ rest f d (at + n) = ap text (walked-go f c at e q z) ∙ text-before p (walkFrom f d (at + n)) in
+  module _ {r : Judged} (j : Judges f p at r) where
+    -- a record, known or unknown
+    pub begun-go : {k : Header} {q : Phase} {after : List ℕ} {next-to : ℕ} → r ≡ Go k q → Stored mid to (lineIf (kindIn (k .kind)) at) after next-to → Begun f q (at + k .size) out after next-to
+    unfolding recAt
+    begun-go {k} {q} e s =
+        let l = lineIf (kindIn (k .kind)) at in
+        let g = judged-good f p at j e in
         record {
           done = h .done ++ l;
           stored = both (h .stored) s;
-          whole = append-assoc (h .done) l (rest f d (at + n)) ∙ ap (λ (x : List ℕ). h .done ++ x) (sym w) ∙ h .whole;
-          short = (let x = h .short in let y = s .behind in let k = held f c at e q .least in omega (arith, line-short (kindOf (getD f (at + 2) 0)) at (omega arith)));
+          asked = asked-go ask (linesOf f) f p at (h .done) (h .asked) j e (h .done ++ l) (λ c w z. ap (λ (x : List ℕ). h .done ++ x) (text-before (placedBy f c at k) w ∙ ap (λ (o : Option Kind). lineIf o at ++ text w) (sym (kind-says f at (g .read)))) ∙ sym (append-assoc (h .done) l (text w)));
+          short = (let x = h .short in let y = s .behind in let m = g .held .least in omega (arith, line-short (kindIn (k .kind)) at (omega arith)));
         }
 
     -- the verdict
     module _ {v : Verdict} (q : r ≡ Stop v) where
-      stops : step c at (drop at f) ≡ stop v
-      unfolding stepMeant
-      stops = e .0 ∙ ap (stepMeant f c at) q
-
       pub last-fits : to + length (lastLine v) ≤ length mid
       last-fits =
-          let n : NamedFrom 3 v = subst (StepNamed (drop at f)) stops (step-named c at (drop at f)) in
-          let i : Here at (stop v) = subst (Here at) stops (here c at (drop at f)) in
+          let n = asked-ends ask (linesOf f) f p at (h .done) (h .asked) j q in
           let s = h .short in
-          omega (arith, verdict-short v at (omega arith) n i, mid-long)
+          omega (arith, verdict-short v at (omega arith) (n .named) (n .here), mid-long)
 
       pub begun-stop : {after : List ℕ} {n : ℕ} → Stored mid to (lastLine v) after n → Stored out 0 (linesOf f) after n
-      unfolding rest views
-      begun-stop s = named-so (ap (λ (x : List ℕ). h .done ++ x) (sym (ap text (from-stop f c at v stops))) ∙ h .whole) (both (h .stored) s)
+      unfolding views
+      begun-stop s = named-so (sym (asked-stop ask (linesOf f) f p at (h .done) (h .asked) j q)) (both (h .stored) s)
 
 -- ---- the whole listing
 

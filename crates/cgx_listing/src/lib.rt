@@ -3,17 +3,16 @@ ghost use mathlib.Core.Path.{_≡_};
 ghost use Prim.Native.Nat.{_+_, _≤_, _<_};
 ghost use lib.ListN.{length};
 ghost use Rattle.cgx_spec.specs.Files.{opening};
-ghost use Rattle.cgx_spec.specs.Kinds.{kindOf};
+ghost use Rattle.cgx_headers.specs.Headers.{kindIn};
 ghost use Rattle.cgx_listing.specs.Listing.{digit, decimal, nameEnd, line, lastLine, linesOf, lineIf, Listed, Stored};
+use cgx_headers::RecordType;
+use cgx_headers::opening_fault;
+use cgx_judge::Judged;
+use cgx_judge::judge;
+use cgx_phases::Phase;
 use cgx_put::put_bytes;
-use cgx_records::kind_of;
-use cgx_records::start_context;
 use cgx_spec::Kind;
 use cgx_spec::Verdict;
-use cgx_steps::Stepped;
-use cgx_steps::context_after;
-use cgx_steps::opening_fault;
-use cgx_steps::step_at;
 
 // The longest file that is listed.
 pub const LIMIT: usize = 65536;
@@ -40,20 +39,20 @@ fn put_records(file: &[u8], out: &mut [u8]) -> usize
     requires { ⌜ (opening (now file) ≡ 0) × (length (now file) ≤ 65536) × (262144 ≤ length (now out)) ⌝ }
     ensures { λ r. ⌜ Stored (now (out .entry)) 0 (linesOf (now (file .entry))) (now (out .exit)) r ⌝ }
 {
-    let mut c = start_context();
+    let mut p = Phase::Start;
     let mut at: usize = 4;
     let mut to: usize = 0;
     loop {
-        let found = step_at(file, c, at);
+        let found = judge(file, p, at);
         match found {
-            Stepped::Stop(v) => {
+            Judged::Stop(v) => {
                 return put_last(out, to, v);
             }
-            Stepped::Go(n) => {
-                let t = file[at + 2];
+            Judged::Go(h, q) => {
+                let t = h.kind;
                 to = put_record(out, to, at, t);
-                c = context_after(c, at, t);
-                at += n;
+                p = q;
+                at += h.size;
             }
         }
     }
@@ -62,14 +61,14 @@ fn put_records(file: &[u8], out: &mut [u8]) -> usize
 // ---- lines: each function stores from an offset on, and answers the offset behind
 
 // The line of a record; nothing where its type is unknown.
-fn put_record(out: &mut [u8], at: usize, offset: usize, t: u8) -> usize
-    requires { ⌜ at + length (lineIf (kindOf t) offset) ≤ length (now out) ⌝ }
-    ensures { λ r. ⌜ Stored (now (out .entry)) at (lineIf (kindOf t) offset) (now (out .exit)) r ⌝ }
+fn put_record(out: &mut [u8], at: usize, offset: usize, t: RecordType) -> usize
+    requires { ⌜ at + length (lineIf (kindIn t) offset) ≤ length (now out) ⌝ }
+    ensures { λ r. ⌜ Stored (now (out .entry)) at (lineIf (kindIn t) offset) (now (out .exit)) r ⌝ }
 {
-    if t < 11 {
-        return put_line(out, at, offset, kind_of(t));
+    match t {
+        RecordType::Known(k) => put_line(out, at, offset, k),
+        RecordType::Unknown => at,
     }
-    at
 }
 
 // Its offset and its name.

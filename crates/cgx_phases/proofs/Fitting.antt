@@ -4,45 +4,14 @@ use mathlib.Core.Bool.{Bool, true, false, cond}
 use mathlib.Core.Option.{Option, none, some}
 use Prim.Native.Nat.{ℕ}
 use lib.Dec.{T}
-use native.Mathlib.Omega.{arith}
 use Rattle.cgx_spec.specs.declared.Kind.{Kind}
 use Rattle.cgx_spec.specs.declared.Kind.the-variants.{Library as LIBRARY, Struct as STRUCT, Cprpty as CPRPTY, Property as PROPERTY, Layer as LAYER, Box as BOX, Poly as POLY, Wire as WIRE, Text as TEXT, Sref as SREF, Endlib as ENDLIB}
 use Rattle.cgx_spec.specs.declared.Context.{Context}
-use Rattle.cgx_spec.specs.Kinds.{kindOf}
 use Rattle.cgx_spec.specs.Order.{start, needsOf, allowed, next}
-use Rattle.cgx_spec.specs.Records.{Rec, broken, rules}
 use Rattle.cgx_spec.proofs.Chain.{State, stateOf, may, then, may-is, then-is}
-use Rattle.cgx_bodies.specs.Bodies.{numberOr0}
-use Rattle.cgx_records.specs.Faults.{recordFault}
 use Rattle.cgx_phases.specs.declared.Phase.{Phase}
 use Rattle.cgx_phases.specs.declared.Phase.the-variants.{Start, Library, Fresh, Cell, Layer, CellRun, LayerRun, Ended, Refused}
-use Rattle.cgx_phases.specs.Phases.{row, isEnded, standing, afterPhase, faultBehind}
-
--- ---- what a phase says
-
--- library, cell, layer, fresh, waiting, ended
-abbrev state : Bool → Bool → Bool → Bool → Bool → Bool → State
-state l c y f w e = record { library = l; cell = c; layer = y; fresh = f; waiting = w; ended = e }
-
-abbrev stateIn : Phase → Option State
-stateIn =
-    row
-    (some (state false false false false false false))
-    (some (state true false false false false false))
-    (some (state true true false true false false))
-    (some (state true true false false false false))
-    (some (state true true true false false false))
-    (some (state true true false false true false))
-    (some (state true true true false true false))
-    (some (state false false false false false true))
-    none
-
--- behind ENDLIB rule 6 is asked no more, so that the phase is one whatever was open
-abbrev seen : State → State
-seen s = cond (s .ended) (state false false false false false true) s
-
-unfoldable pub Fits : Phase → Context → Type 0
-Fits p c = some (seen (stateOf c)) ≡ stateIn p
+use Rattle.cgx_phases.specs.Phases.{isEnded, standing, afterPhase, state, stateIn, seen, Fits}
 
 pub fits-start : Fits Start start
 unfolding Fits start
@@ -50,7 +19,7 @@ fits-start = refl
 
 -- ---- the table
 
--- where a record may stand, the state behind it
+-- where a record may stand, the state after it
 abbrev onward : Option State → Option Kind → Option State
 onward none o = none
 onward (some s) o = cond (may s o) (some (seen (then s o))) none
@@ -153,18 +122,3 @@ module _ (p : Phase) (c : Context) (f : Fits p c) where
       pub fits-on : allowed c o ≡ true → Fits (afterPhase p o) (next c at o)
       unfolding Fits
       fits-on a = ap (λ (b : Bool). cond b (some (seen (stateOf (next c at o)))) none) (sym a) ∙ on
-
-    pub fault-is : (r : Rec) → faultBehind (afterPhase p (kindOf (r .type))) r ≡ recordFault c r
-    fault-is r = ap (λ (b : Bool). numberOr0 (broken (rules b (kindOf (r .type)) r))) (sym (allowed-is 0 (kindOf (r .type))))
-
--- rule 6 comes first
-pub first-6 : (here : Bool) (o : Option Kind) (r : Rec) → here ≡ false → 6 ≡ numberOr0 (broken (rules here o r))
-unfolding rules broken
-first-6 true o r e = absurd (subst T e tt)
-first-6 false none r e = refl
-first-6 false (some k) r e = refl
-
--- so that a record that breaks no rule may stand where it does
-pub stood-by : (here : Bool) (o : Option Kind) (r : Rec) → 0 ≡ numberOr0 (broken (rules here o r)) → here ≡ true
-stood-by true o r e = refl
-stood-by false o r e = absurd (let z = first-6 false o r refl in omega arith)

@@ -1,12 +1,11 @@
--- The phase behind a record, as a table, and the rules 6 to 12 by it. That this is rule 6 of the contexts is proved in proofs/Fitting. Definitions only.
-use mathlib.Core.Bool.{Bool, true, false}
+-- The phase after a record, as a table. That this is rule 6 of the contexts is proved in proofs/Fitting. Definitions only.
+use mathlib.Core.Path.{_≡_}
+use mathlib.Core.Bool.{Bool, true, false, cond}
 use mathlib.Core.Option.{Option, none, some}
-use Prim.Native.Nat.{ℕ}
 use Rattle.cgx_spec.specs.declared.Kind.{Kind}
 use Rattle.cgx_spec.specs.declared.Kind.the-variants.{Library as LIBRARY, Struct as STRUCT, Cprpty as CPRPTY, Property as PROPERTY, Layer as LAYER, Box as BOX, Poly as POLY, Wire as WIRE, Text as TEXT, Sref as SREF, Endlib as ENDLIB}
-use Rattle.cgx_spec.specs.Kinds.{kindOf}
-use Rattle.cgx_spec.specs.Records.{Rec, broken, rules}
-use Rattle.cgx_bodies.specs.Bodies.{numberOr0}
+use Rattle.cgx_spec.specs.declared.Context.{Context}
+use Rattle.cgx_spec.proofs.Chain.{State, stateOf}
 use Rattle.cgx_phases.specs.declared.Phase.{Phase}
 use Rattle.cgx_phases.specs.declared.Phase.the-variants.{Start, Library, Fresh, Cell, Layer, CellRun, LayerRun, Ended, Refused}
 
@@ -29,7 +28,7 @@ isEnded = row false false false false false false false true false
 abbrev pub standing : Phase → Bool
 standing = row true true true true true true true true false
 
--- ---- the phase behind a record: the columns are Start, Library, Fresh, Cell, Layer, CellRun, LayerRun, Ended, Refused
+-- ---- the phase after a record: the columns are Start, Library, Fresh, Cell, Layer, CellRun, LayerRun, Ended, Refused
 
 abbrev no : Phase
 no = Refused
@@ -76,8 +75,29 @@ afterPhase p (some TEXT) = afterShape p
 afterPhase p (some SREF) = afterSref p
 afterPhase p (some ENDLIB) = afterEndlib p
 
--- ---- rules
+-- ---- what a phase says of a context
 
--- The first of the rules 6 to 12 that a record breaks, or 0, by the phase behind it.
-abbrev pub faultBehind : Phase → Rec → ℕ
-faultBehind p r = numberOr0 (broken (rules (standing p) (kindOf (r .type)) r))
+-- library, cell, layer, fresh, waiting, ended
+abbrev pub state : Bool → Bool → Bool → Bool → Bool → Bool → State
+state l c y f w e = record { library = l; cell = c; layer = y; fresh = f; waiting = w; ended = e }
+
+abbrev pub stateIn : Phase → Option State
+stateIn =
+    row
+    (some (state false false false false false false))
+    (some (state true false false false false false))
+    (some (state true true false true false false))
+    (some (state true true false false false false))
+    (some (state true true true false false false))
+    (some (state true true false false true false))
+    (some (state true true true false true false))
+    (some (state false false false false false true))
+    none
+
+-- after ENDLIB rule 6 is asked no more, so that the phase is one whatever was open
+abbrev pub seen : State → State
+seen s = cond (s .ended) (state false false false false false true) s
+
+-- The phase is what rule 6 sees of the context.
+unfoldable pub Fits : Phase → Context → Type 0
+Fits p c = some (seen (stateOf c)) ≡ stateIn p

@@ -1,13 +1,9 @@
-// Phases: what rule 6 sees of a context, as one small value. The whole-file check needs no offsets, and goes from record to record with
-// a phase.
+// Phases: what rule 6 sees of a context, as one small value. Who only judges needs no offsets, and goes from record to record with a phase.
 ghost use mathlib.Core.Path.{_≡_};
-ghost use Rattle.cgx_spec.specs.Kinds.{kindOf};
 ghost use mathlib.Core.Option.{some};
-ghost use Rattle.cgx_bodies.specs.Bodies.{Body};
-ghost use Rattle.cgx_phases.specs.Phases.{isEnded, standing, afterUnknown, afterLibrary, afterStruct, afterCprpty, afterProperty, afterLayer, afterShape, afterSref, afterEndlib, afterPhase, faultBehind};
-use cgx_records::body_fault;
-use cgx_records::flags_good;
-use cgx_records::kind_of;
+ghost use Rattle.cgx_headers.specs.Headers.{kindIn};
+ghost use Rattle.cgx_phases.specs.Phases.{isEnded, standing, afterUnknown, afterLibrary, afterStruct, afterCprpty, afterProperty, afterLayer, afterShape, afterSref, afterEndlib, afterPhase};
+use cgx_headers::RecordType;
 use cgx_spec::Kind;
 
 pub enum Phase {
@@ -46,25 +42,8 @@ pub fn has_ended(p: Phase) -> bool
     }
 }
 
-// The first of the rules 6 to 12 that a record breaks, or 0, where p is the phase behind it.
-pub fn fault_behind(p: Phase, t: u8, fl: u8, b: &[u8]) -> u8
-    requires { ⌜ Body (now b) ⌝ }
-    ensures { λ r. ⌜ r ≡ faultBehind p (record { type = t; flags = fl; body = now (b .entry) }) ⌝ }
-{
-    if !stands(p) {
-        return 6;
-    }
-    if t < 11 {
-        let k = kind_of(t);
-        if !flags_good(k, fl) {
-            return 7;
-        }
-        return body_fault(k, fl, b);
-    }
-    0
-}
-
-fn stands(p: Phase) -> bool
+// Rule 6 allowed the record before this phase.
+pub fn stands(p: Phase) -> bool
     ensures { λ r. ⌜ r ≡ standing p ⌝ }
 {
     match p {
@@ -80,14 +59,14 @@ fn stands(p: Phase) -> bool
     }
 }
 
-// The phase behind a record of any type; Refused where it may not stand.
-pub fn phase_after(p: Phase, t: u8) -> Phase
-    ensures { λ r. ⌜ r ≡ afterPhase p (kindOf t) ⌝ }
+// The phase after a record of any type; Refused where it may not stand.
+pub fn phase_after(p: Phase, t: RecordType) -> Phase
+    ensures { λ r. ⌜ r ≡ afterPhase p (kindIn t) ⌝ }
 {
-    if t < 11 {
-        return after_known(p, kind_of(t));
+    match t {
+        RecordType::Known(k) => after_known(p, k),
+        RecordType::Unknown => after_unknown(p),
     }
-    after_unknown(p)
 }
 
 fn after_known(p: Phase, k: Kind) -> Phase

@@ -1,76 +1,57 @@
 -- The rules 6 to 12 of a record, one after another. Assumes nothing.
-use mathlib.Core.Path.{_≡_, sym, ap, ap₂, _∙_}
+use mathlib.Core.Path.{_≡_, refl, sym, ap, ap₂, _∙_, subst}
 use mathlib.Core.Bool.{Bool, true, false, _&&_}
-use mathlib.Core.List.{List, [], _∷_}
+use mathlib.Core.List.{List, _∷_}
 use mathlib.Core.Option.{Option, none, some}
-use Prim.Native.Nat.{ℕ, suc, _≤_, _<_}
+use Prim.Native.Nat.{ℕ}
 use native.Mathlib.Omega.{arith}
+use lib.Dec.{T}
 use Rattle.cgx_spec.specs.Fields.{pieces}
-use Rattle.cgx_spec.specs.Kinds.{kindOf, goodFlags, layout}
+use Rattle.cgx_spec.specs.Kinds.{goodFlags, layout}
 use Rattle.cgx_spec.specs.Order.{needsOf, allowed}
-use Rattle.cgx_spec.specs.Records.{rule, rules, piecesOf, fieldRules, broken}
+use Rattle.cgx_spec.specs.Records.{Rec, rule, rules, piecesOf, fieldRules, broken}
 use Rattle.cgx_spec.specs.declared.Kind.{Kind}
 use Rattle.cgx_spec.specs.declared.Context.{Context}
-use Rattle.cgx_spec.proofs.Demand3.{unknown-kind}
 use Rattle.cgx_spec.proofs.Lists.{and-true, and-assoc}
 use Rattle.cgx_bodies.specs.Bodies.{numberOr0, bodyFault}
+use Rattle.cgx_records.specs.Faults.{ruleFault}
 
-up : (n t : ℕ) → n ≤ t → (t ≡ n → ⊥) → suc n ≤ t
-up n t h q = omega arith
+-- rule 6 comes first
+pub first-6 : (here : Bool) (o : Option Kind) (r : Rec) → here ≡ false → 6 ≡ ruleFault here o r
+unfolding rules broken
+first-6 true o r e = absurd (subst T e tt)
+first-6 false none r e = refl
+first-6 false (some k) r e = refl
 
--- a known type that is none of 0 to 9
-pub last-type : (t : ℕ) → t < 11 → (t ≡ 0 → ⊥) → (t ≡ 1 → ⊥) → (t ≡ 2 → ⊥) → (t ≡ 3 → ⊥) → (t ≡ 4 → ⊥) → (t ≡ 5 → ⊥) → (t ≡ 6 → ⊥) → (t ≡ 7 → ⊥) → (t ≡ 8 → ⊥) → (t ≡ 9 → ⊥) → t ≡ 10
-last-type t h q0 q1 q2 q3 q4 q5 q6 q7 q8 q9 =
-    ten t h (up 9 t (up 8 t (up 7 t (up 6 t (up 5 t (up 4 t (up 3 t (up 2 t (up 1 t (up 0 t (zero-le-it t) q0) q1) q2) q3) q4) q5) q6) q7) q8) q9)
-  where
-    zero-le-it : (n : ℕ) → 0 ≤ n
-    zero-le-it n = omega arith
+-- so that a record that breaks no rule may stand where it does
+pub stood-by : (here : Bool) (o : Option Kind) (r : Rec) → 0 ≡ ruleFault here o r → here ≡ true
+stood-by true o r e = refl
+stood-by false o r e = absurd (let z = first-6 false o r refl in omega arith)
 
-    ten : (n : ℕ) → n < 11 → 10 ≤ n → n ≡ 10
-    ten n a b = omega arith
+-- ---- the rules in turn, where the record may stand
+module _ (here : Bool) (h : here ≡ true) (k : Kind) (fl : ℕ) (b : List ℕ) (n : ℕ) where
+  abbrev fault : Bool → Bool → ℕ
+  fault x y = numberOr0 (broken (rule 6 x ∷ rule 7 y ∷ fieldRules (pieces (layout k fl) b)))
 
--- of a record that may stand where it does by a test of its kind
-module _ (here : Option Kind → Bool) (t fl : ℕ) (b : List ℕ) where
-  abbrev fault : Option Kind → ℕ
-  fault o = numberOr0 (broken (rules (here o) o (record { type = t; flags = fl; body = b })))
+  abbrev whole : ℕ
+  whole = ruleFault here (some k) (record { type = n; flags = fl; body = b })
 
-  module _ {k : Kind} (e : kindOf t ≡ some k) where
-    abbrev one : Bool → Bool → ℕ
-    one x y = numberOr0 (broken (rule 6 x ∷ rule 7 y ∷ fieldRules (pieces (layout k fl) b)))
+  pub flags-7 : {w : Bool} → w ≡ goodFlags k fl → w ≡ false → 7 ≡ whole
+  unfolding rules piecesOf broken
+  flags-7 g e = sym (ap (λ (x : Bool). fault x (goodFlags k fl)) h ∙ ap (fault true) (sym g ∙ e))
 
-    by-kind : fault (kindOf t) ≡ one (here (some k)) (goodFlags k fl)
-    unfolding rules piecesOf
-    by-kind = ap fault e
+  pub body-8 : {w : Bool} {r : ℕ} → w ≡ goodFlags k fl → w ≡ true → r ≡ bodyFault k fl b → r ≡ whole
+  unfolding rules piecesOf broken bodyFault
+  body-8 g e z = z ∙ sym (ap (λ (x : Bool). fault x (goodFlags k fl)) h ∙ ap (fault true) (sym g ∙ e))
 
-    pub rule-6 : {v : Bool} → v ≡ here (some k) → v ≡ false → 6 ≡ fault (kindOf t)
-    unfolding broken
-    rule-6 a f = sym (by-kind ∙ ap (λ (x : Bool). one x (goodFlags k fl)) (sym a ∙ f))
-
-    pub rule-7 : {v w : Bool} → v ≡ here (some k) → v ≡ true → w ≡ goodFlags k fl → w ≡ false → 7 ≡ fault (kindOf t)
-    unfolding broken
-    rule-7 a f a' f' = sym (by-kind ∙ ap (λ (x : Bool). one x (goodFlags k fl)) (sym a ∙ f) ∙ ap (one true) (sym a' ∙ f'))
-
-    pub rules-on : {v w : Bool} {r : ℕ} → v ≡ here (some k) → v ≡ true → w ≡ goodFlags k fl → w ≡ true → r ≡ bodyFault k fl b → r ≡ fault (kindOf t)
-    unfolding broken bodyFault
-    rules-on a f a' f' z = z ∙ sym (by-kind ∙ ap (λ (x : Bool). one x (goodFlags k fl)) (sym a ∙ f) ∙ ap (one true) (sym a' ∙ f'))
-
-  module _ (h : 11 ≤ t) where
-    by-none : fault (kindOf t) ≡ numberOr0 (broken (rule 6 (here none) ∷ []))
-    unfolding rules
-    by-none = ap fault (unknown-kind t h)
-
-    pub unknown-good : here none ≡ true → 0 ≡ fault (kindOf t)
-    unfolding broken
-    unknown-good l = sym (by-none ∙ ap (λ (x : Bool). numberOr0 (broken (rule 6 x ∷ []))) l)
-
-    pub unknown-early : here none ≡ false → 6 ≡ fault (kindOf t)
-    unfolding broken
-    unknown-early l = sym (by-none ∙ ap (λ (x : Bool). numberOr0 (broken (rule 6 x ∷ []))) l)
+pub unknown-0 : {here : Bool} → here ≡ true → (r : Rec) → 0 ≡ ruleFault here none r
+unfolding rules broken
+unknown-0 h r = sym (ap (λ (x : Bool). ruleFault x none r) h)
 
 -- an unknown record needs a LIBRARY before it
-pub unknown-needs : (c : Context) {v : Bool} → c .library ≡ v → allowed c none ≡ v
+pub unknown-needs : (c : Context) → c .library ≡ allowed c none
 unfolding allowed needsOf
-unknown-needs c {v} l = and-true (c .library) ∙ l
+unknown-needs c = sym (and-true (c .library))
 
 -- ---- needs, as `every` has them
 

@@ -2,10 +2,12 @@
 ghost use mathlib.Core.Path.{_≡_};
 ghost use mathlib.Core.Option.{some};
 ghost use Prim.Native.Nat.{_<_};
-ghost use Rattle.cgx_spec.specs.Kinds.{kindOf, goodFlags};
-ghost use Rattle.cgx_spec.specs.Order.{start, stands, awaiting, allowed, longer, afterObject, next};
+ghost use Rattle.cgx_spec.specs.Kinds.{goodFlags};
+ghost use Rattle.cgx_spec.specs.Order.{stands, awaiting, allowed, longer, afterObject, next};
 ghost use Rattle.cgx_bodies.specs.Bodies.{bodyFault, Body};
-ghost use Rattle.cgx_records.specs.Faults.{recordFault, waiting};
+ghost use Rattle.cgx_headers.specs.Headers.{kindIn};
+ghost use Rattle.cgx_records.specs.Faults.{FaultIs, waiting};
+use cgx_headers::RecordType;
 use cgx_kinds::Sref;
 use cgx_kinds::Wire;
 use cgx_spec::Context;
@@ -15,41 +17,32 @@ use cgx_spec::Run;
 
 // ---- one record
 
-// The first of the rules 6 to 12 that a record breaks, or 0. Types from 11 on are unknown, and need only a LIBRARY before them.
-pub fn record_fault(c: Context, t: u8, fl: u8, b: &[u8]) -> u8
+// The first of the rules 6 to 12 that a record breaks, or 0. Whether rule 6 allows it here is told; nothing more is asked of an unknown one.
+pub fn record_fault(here: bool, t: RecordType, fl: u8, b: &[u8]) -> u8
     requires { ⌜ Body (now b) ⌝ }
-    ensures { λ r. ⌜ r ≡ recordFault c (record { type = t; flags = fl; body = now (b .entry) }) ⌝ }
+    ensures { λ r. ⌜ FaultIs here (kindIn t) fl (now (b .entry)) r ⌝ }
 {
-    if t < 11 {
-        let k = kind_of(t);
-        if !may_stand(c, k) {
-            return 6;
-        }
-        if !flags_good(k, fl) {
-            return 7;
-        }
-        return body_fault(k, fl, b);
+    if !here {
+        return 6;
     }
-    if c.library { 0 } else { 6 }
+    match t {
+        RecordType::Known(k) => {
+            if !flags_good(k, fl) {
+                return 7;
+            }
+            body_fault(k, fl, b)
+        }
+        RecordType::Unknown => 0,
+    }
 }
 
-// The kind of a known type.
-pub fn kind_of(t: u8) -> Kind
-    requires { ⌜ t < 11 ⌝ }
-    ensures { λ r. ⌜ kindOf t ≡ some r ⌝ }
+// Rule 6 of a record of any type: an unknown one needs only a LIBRARY before it.
+pub fn may_follow(c: Context, t: RecordType) -> bool
+    ensures { λ r. ⌜ r ≡ allowed c (kindIn t) ⌝ }
 {
     match t {
-        0 => Kind::Library,
-        1 => Kind::Struct,
-        2 => Kind::Cprpty,
-        3 => Kind::Property,
-        4 => Kind::Layer,
-        5 => Kind::Box,
-        6 => Kind::Poly,
-        7 => Kind::Wire,
-        8 => Kind::Text,
-        9 => Kind::Sref,
-        _ => Kind::Endlib,
+        RecordType::Known(k) => may_stand(c, k),
+        RecordType::Unknown => c.library,
     }
 }
 
@@ -138,20 +131,6 @@ pub fn body_fault(k: Kind, fl: u8, b: &[u8]) -> u8
 }
 
 // ---- contexts
-
-// Nothing has been read.
-pub fn start_context() -> Context
-    ensures { λ r. ⌜ r ≡ start ⌝ }
-{
-    Context {
-        library: false,
-        cell: Offset::Nowhere,
-        layer: Offset::Nowhere,
-        fresh: false,
-        run: Run::Empty,
-        ended: false,
-    }
-}
 
 // The context after a known record at an offset.
 pub fn next_context(c: Context, at: usize, k: Kind) -> Context

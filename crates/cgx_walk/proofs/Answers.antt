@@ -16,12 +16,16 @@ use Rattle.cgx_spec.specs.Order.{next}
 use Rattle.cgx_spec.specs.Records.{size, Placed, contextAfter, viewOf}
 use Rattle.cgx_spec.specs.Files.{Step, stop, go, step}
 use Rattle.cgx_spec.specs.Walking.{placeAfter, forged, Answer, seen, refusedAt, ending, answer, stepOf, recAt, Held}
-use Rattle.cgx_spec.proofs.Demand3.{unknown-kind}
 use Rattle.cgx_spec.proofs.Verdicts.{StepNamed, step-named}
-use Rattle.cgx_steps.specs.Steps.{stepMeant, StepIn}
+use Rattle.cgx_headers.specs.declared.RecordType.{RecordType}
+use Rattle.cgx_headers.specs.declared.Header.{Header}
+use Rattle.cgx_headers.specs.Headers.{kindIn}
+use Rattle.cgx_headers.proofs.HeaderLaws.{kind-says}
+use Rattle.cgx_headers.proofs.Heads.{held-size}
+use Rattle.cgx_steps.specs.Steps.{stepMeant, Steps}
 use Rattle.cgx_steps.specs.declared.Stepped.{Stepped}
 use Rattle.cgx_steps.specs.declared.Stepped.the-variants.{Stop, Go}
-use Rattle.cgx_steps.proofs.Walks.{good, held-size}
+use Rattle.cgx_steps.proofs.Walks.{good-header, good}
 use Rattle.cgx_walk.specs.declared.Started.the-variants.{Refused as NotBegun}
 use Rattle.cgx_walk.specs.Walk.{started, placedAt, foundMeant}
 
@@ -58,19 +62,22 @@ from f c at = answer (length f) (step c at (drop at f))
 
 -- ---- the three cases of a record
 
-module _ (f : List ℕ) (c : Context) (at : ℕ) {r : Stepped} (e : (step c at (drop at f) ≡ stepMeant f c at r) × StepIn f c at r) where
+module _ (f : List ℕ) (c : Context) (at : ℕ) {r : Stepped} (e : Steps f c at r) where
   pub from-stop : {v : Verdict} → r ≡ Stop v → from f c at ≡ ending v
   unfolding stepMeant answer
-  from-stop {v} q = ap (answer (length f)) (e .0 ∙ ap (stepMeant f c at) q) ∙ go₀ (length f)
+  from-stop {v} q = ap (answer (length f)) (e .steps ∙ ap (stepMeant f c at) q) ∙ go₀ (length f)
     where
       go₀ : (k : ℕ) → answer k (stop v) ≡ ending v
       go₀ zero = refl
       go₀ (suc k) = refl
 
-  module _ {n : ℕ} (q : r ≡ Go n) where
+  module _ {h : Header} (q : r ≡ Go h) where
+    abbrev n : ℕ
+    n = h .size
+
     went : step c at (drop at f) ≡ go (placedAt f c at n) (drop (at + n) f)
     unfolding stepMeant
-    went = e .0 ∙ ap (stepMeant f c at) q
+    went = e .steps ∙ ap (stepMeant f c at) q
 
     inside : Held f at n
     inside = good f c at e q .held
@@ -110,9 +117,12 @@ module _ (f : List ℕ) (c : Context) (at : ℕ) {r : Stepped} (e : (step c at (
         ∙ ap (λ (m : ℕ). seen (viewOf k (placedAt f c at n)) (record { at = at + m; context = contextAfter (placedAt f c at n) })) s
         ∙ ap (λ (d : Context). seen (viewOf k (placedAt f c at n)) (record { at = at + n; context = d })) (after-is x)
 
-    pub from-unknown : 11 ≤ getD f (at + 2) 0 → from f c at ≡ from f c (at + n)
-    from-unknown h =
-        let x = unknown-kind (getD f (at + 2) 0) h in
+    -- by the type of the header
+    pub kind-is : {t : RecordType} → h .kind ≡ t → kindOf (getD f (at + 2) 0) ≡ kindIn t
+    kind-is k = sym (kind-says f at (good-header f c at e q .read)) ∙ ap kindIn k
+
+    pub from-unknown : kindOf (getD f (at + 2) 0) ≡ none → from f c at ≡ from f c (at + n)
+    from-unknown x =
         let y : contextAfter (placedAt f c at n) ≡ c = after-is x ∙ (unfold next in refl) in
         cases ∙ ap (λ (o : Option Kind). either o (from f (contextAfter (placedAt f c at n)) (at + n)) (placedAt f c at n)) x
         ∙ ap (λ (d : Context). from f d (at + n)) y

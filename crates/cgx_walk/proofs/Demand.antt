@@ -6,7 +6,7 @@ use lib.ListN.{length}
 use Rattle.cgx_spec.specs.declared.Place.{Place}
 use Rattle.cgx_spec.specs.Files.{header, viewsOf, verdictOf, opening}
 use Rattle.cgx_spec.specs.Demands.{AnswerNamed}
-use Rattle.cgx_spec.specs.Walking.{firstPlace, ending, stepOf, Reads, andThen, reads}
+use Rattle.cgx_spec.specs.Walking.{firstPlace, ending, andThen, reads}
 use Rattle.cgx_spec.proofs.Verdicts as verdicts
 use Rattle.cgx_spec.proofs.Steps.{reading-law}
 use Rattle.cgx_kinds.specs.Meant.{viewMeant}

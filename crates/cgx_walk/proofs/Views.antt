@@ -1,22 +1,20 @@
 -- A good record of a known kind can be read, and its view is the one that the definitions give. Assumes nothing.
-use mathlib.Core.Path.{_≡_, refl, sym, ap, ap₂, _∙_, subst}
-use mathlib.Core.Bool.{Bool, true, false, cond}
-use mathlib.Core.List.{List, _∷_}
+use mathlib.Core.Path.{_≡_, sym, ap, _∙_, subst}
+use mathlib.Core.Bool.{cond}
+use mathlib.Core.List.{List}
 use mathlib.Core.Option.{Option, none, some}
 use Prim.Native.Nat.{ℕ, _+_}
-use native.Mathlib.Omega.{arith}
 use lib.ListN.{getD}
 use Rattle.cgx_spec.specs.declared.Kind.{Kind}
 use Rattle.cgx_spec.specs.declared.Run.{Run}
 use Rattle.cgx_spec.specs.declared.Run.the-variants.{Empty}
 use Rattle.cgx_spec.specs.declared.Context.{Context}
-use Rattle.cgx_spec.specs.Fields.{pieces, lengthsFit, keeps, values}
-use Rattle.cgx_spec.specs.Kinds.{kindOf, goodFlags, layout}
+use Rattle.cgx_spec.specs.Fields.{pieces, values}
+use Rattle.cgx_spec.specs.Kinds.{kindOf, layout}
 use Rattle.cgx_spec.specs.Order.{allowed, isObject, next}
-use Rattle.cgx_spec.specs.Records.{Rec, Rule, rule, broken, rules, piecesOf, faultOf, contextAfter, viewOf}
+use Rattle.cgx_spec.specs.Records.{broken, rules, piecesOf, contextAfter, viewOf}
 use Rattle.cgx_spec.specs.Walking.{recAt}
 use Rattle.cgx_kinds.specs.declared.Fields.{Fields}
-use Rattle.cgx_kinds.specs.declared.View.{View}
 use Rattle.cgx_kinds.specs.Meant.{fieldValues, viewMeant}
 use Rattle.cgx_spec.proofs.Normal.{rules-kept}
 use Rattle.cgx_views.specs.Views.{Readable}

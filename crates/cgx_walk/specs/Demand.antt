@@ -1,13 +1,13 @@
 -- Demand 2 of the reader's own answers: what a caller is given that calls `start` and then `step` until it says something else than a record. Statements only.
 use mathlib.Core.Path.{_≡_}
-use mathlib.Core.List.{List, [], _∷_, _++_}
+use mathlib.Core.List.{List, [], _++_}
 use Prim.Native.Nat.{ℕ, zero, suc}
 use lib.ListN.{length}
 use Rattle.cgx_spec.specs.declared.Offset.the-variants.{Nowhere}
 use Rattle.cgx_spec.specs.declared.Place.{Place}
 use Rattle.cgx_spec.specs.Files.{header, viewsOf, verdictOf}
 use Rattle.cgx_spec.specs.Demands.{AnswerNamed}
-use Rattle.cgx_spec.specs.Walking.{firstPlace, Answer, refusedAt, ending, Reads, andThen}
+use Rattle.cgx_spec.specs.Walking.{firstPlace, refusedAt, ending, Reads, andThen}
 use Rattle.cgx_kinds.specs.Meant.{viewMeant}
 use Rattle.cgx_walk.specs.declared.Outcome.{Outcome}
 use Rattle.cgx_walk.specs.declared.Outcome.the-variants.{Record, Done, Refused}

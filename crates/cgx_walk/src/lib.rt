@@ -7,9 +7,10 @@ ghost use Prim.Native.Nat.{ℕ};
 ghost use Rattle.cgx_spec.specs.Order.{isObject, next};
 ghost use Rattle.cgx_spec.specs.Walking.{ending};
 ghost use Rattle.cgx_walk.specs.Walk.{startOf, answerMeant, HandsBack, Stands, StepMade, Found, Viewed, foundMeant};
+use cgx_headers::RecordType;
+use cgx_headers::opening_fault;
 use cgx_kinds::View;
 use cgx_places::is_forged;
-use cgx_records::kind_of;
 use cgx_records::next_context;
 use cgx_spec::Context;
 use cgx_spec::Kind;
@@ -18,7 +19,6 @@ use cgx_spec::Place;
 use cgx_spec::Run;
 use cgx_spec::Verdict;
 use cgx_steps::Stepped;
-use cgx_steps::opening_fault;
 use cgx_steps::step_at;
 use cgx_views::fields_of;
 
@@ -71,10 +71,14 @@ pub fn step(file: &[u8], place: Place) -> Outcome
             Stepped::Stop(v) => {
                 return ended(v, place);
             }
-            Stepped::Go(n) => {
-                let t = file[at + 2];
-                if t < 11 {
-                    return known(file, c, at, n, kind_of(t));
+            Stepped::Go(h) => {
+                let n = h.size;
+                let t = h.kind;
+                match t {
+                    RecordType::Known(k) => {
+                        return known(file, c, at, n, k);
+                    }
+                    RecordType::Unknown => {}
                 }
                 at += n;
             }

@@ -1,18 +1,21 @@
--- The invariant: with a context that fits the phase, the walk from here on has the file's verdict and makes the rest of its normal form (`Turns`).
+-- The loop law of `Asking`, with the question of `Turns`.
 use mathlib.Core.Path.{sym, _∙_}
+use Prim.Native.Nat.{_-_, _≤_}
 use native.Mathlib.Omega.{arith}
-use borrow.Author.Needs.{needs}
-use Prim.Native.Nat.{_+_, _-_}
-use lib.ListN.{length, getD}
-use Rattle.cgx_steps.proofs.Heads.{head-held, held-body}
+use lib.ListN.{length}
+use Rattle.cgx_headers.specs.Headers.{kindIn}
+use Rattle.cgx_headers.proofs.Openings.{opening-long}
 use Rattle.cgx_steps.proofs.Walks.{not-begun}
+use Rattle.cgx_judge.proofs.Asking.{Asked, asked-start, asked-stop, asked-go, judged-good}
+use Rattle.cgx_check.specs.Measure.{measureOf}
 use Rattle.cgx_check.proofs.Runs.{taken-le}
-use Rattle.cgx_check.proofs.Turns.{On, on-start, measured-refused, on-done, on-more, on-bad, on-broken, on-next}
+use Rattle.cgx_check.proofs.Turns.{ask, ask-all, ask-stop, ask-go, measured-refused}
+use borrow.Author.Needs.{needs}
 use Rattle.cgx_check.proofs.measure.Statement.{statement}
 use Rattle.cgx_check.proofs.measure.Tie as tie
 
 abbrev Inv-loop : tie.InvT-loop
-Inv-loop file number p₀ at₀ length₀ p at m = On file p at m
+Inv-loop file number p₀ at₀ length₀ p at m = Asked ask (measureOf file) file p at m × (m ≤ at)
 
 abbrev μ-loop : tie.MeasureT-loop
 μ-loop file number p₀ at₀ length₀ p at m = length file - at
@@ -24,79 +27,37 @@ returns : tie.Need-returns Inv-loop μ-loop
 returns c = measured-refused (c .before .before .before .args .file .now) (not-begun (c .before .before .before .args .file .now) _ (c .before .opening-fault .ensures) (c .if1 .taken))
 
 loop-holds : tie.Need-loop-holds Inv-loop μ-loop
-loop-holds c = on-start (c .before .before .before .args .file .now) (sym (c .before .opening-fault .ensures) ∙ c .if1 .left)
+loop-holds c = let z = sym (c .before .opening-fault .ensures) ∙ (c .if1 .left) in (asked-start ask (measureOf (c .before .before .before .args .file .now)) (c .before .before .before .args .file .now) 4 z (ask-all (c .before .before .before .args .file .now) (opening-long (c .before .before .before .args .file .now) z)), omega arith)
 
-has-ended-requires : tie.Need-has-ended-requires Inv-loop μ-loop
-has-ended-requires c κs = search needs
-
-returns-2 : tie.Need-returns-2 Inv-loop μ-loop
-returns-2 c = on-done (c .before .before .before .before .before .before .before .args .file .now) (c .before .before .before .loop .p) (c .before .before .before .loop .at) (c .before .before .before .loop .length) (c .before .before .before .loop .inv) (sym (c .before .before .has-ended .ensures) ∙ c .before .if2 .taken) (c .if3 .taken)
-
-returns-3 : tie.Need-returns-3 Inv-loop μ-loop
-returns-3 c = on-more (c .before .before .before .before .before .before .before .args .file .now) (c .before .before .before .loop .p) (c .before .before .before .loop .at) (c .before .before .before .loop .length) (c .before .before .before .loop .inv) (sym (c .before .before .has-ended .ensures) ∙ c .before .if2 .taken) (c .if3 .left)
-
-head-at-requires : tie.Need-head-at-requires Inv-loop μ-loop
-head-at-requires c κs = (c .before .before .loop .inv) .inside
+judge-requires : tie.Need-judge-requires Inv-loop μ-loop
+judge-requires c κs = (c .loop .inv .0 .inside)
 
 enum-known-found : tie.Need-enum-known-found Inv-loop μ-loop
 enum-known-found c = search needs
 
-returns-4 : tie.Need-returns-4 Inv-loop μ-loop
-returns-4 c = on-bad (c .before .before .before .before .before .before .before .before .before .before .args .file .now) (c .before .before .before .before .before .before .loop .p) (c .before .before .before .before .before .before .loop .at) (c .before .before .before .before .before .before .loop .length) (c .before .before .before .before .before .before .loop .inv) (sym (c .before .before .before .before .before .has-ended .ensures) ∙ c .before .before .before .before .if2 .left) (c .before .before .before .head-at .result) (c .before .before .before .head-at .ensures) (c .before .found .given .1)
+with-length-requires : tie.Need-with-length-requires Inv-loop μ-loop
+with-length-requires c κs = search needs
+
+returns-2 : tie.Need-returns-2 Inv-loop μ-loop
+returns-2 c = (c .with-length .ensures) ∙ sym (asked-stop ask (measureOf (c .before .before .before .before .before .before .before .before .before .args .file .now)) (c .before .before .before .before .before .before .before .before .before .args .file .now) (c .before .before .before .before .before .loop .p) (c .before .before .before .before .before .loop .at) (c .before .before .before .before .before .loop .length) (c .before .before .before .before .before .loop .inv .0) (c .before .before .before .before .judge .ensures) (c .before .before .found .given .1) ∙ ask-stop (c .before .before .before .before .before .loop .length) (c .before .before .found .given .0 .0))
 
 enum-known-found-2 : tie.Need-enum-known-found-2 Inv-loop μ-loop
 enum-known-found-2 c = search needs
-
-add-from : tie.Need-add-from Inv-loop μ-loop
-add-from c = let h = head-held (c .before .before .before .before .before .before .before .before .before .before .args .file .now) (c .before .before .before .before .before .before .loop .at) (c .before .before .before .head-at .result) (c .before .before .before .head-at .ensures .1) (c .before .found2 .given .1) in let a = h .least in let i = h .inside in omega arith
-
-add-to : tie.Need-add-to Inv-loop μ-loop
-add-to c = let h = head-held (c .before .before .before .before .before .before .before .before .before .before .args .file .now) (c .before .before .before .before .before .before .loop .at) (c .before .before .before .head-at .result) (c .before .before .before .head-at .ensures .1) (c .before .found2 .given .1) in let a = h .least in let i = h .inside in omega arith
-
-add-t : tie.Need-add-t Inv-loop μ-loop
-add-t c = let h = head-held (c .before .before .before .before .before .before .before .before .before .before .args .file .now) (c .before .before .before .before .before .before .loop .at) (c .before .before .before .head-at .result) (c .before .before .before .head-at .ensures .1) (c .before .found2 .given .1) in let a = h .least in let i = h .inside in omega arith
-
-shared-slice-read-t : tie.Need-shared-slice-read-t Inv-loop μ-loop
-shared-slice-read-t c = let h = head-held (c .before .before .before .before .before .before .before .before .before .before .before .args .file .now) (c .before .before .before .before .before .before .before .loop .at) (c .before .before .before .before .head-at .result) (c .before .before .before .before .head-at .ensures .1) (c .before .before .found2 .given .1) in let a = h .least in let i = h .inside in omega arith
-
-phase-after-requires : tie.Need-phase-after-requires Inv-loop μ-loop
-phase-after-requires c κs = search needs
-
-add-fault-behind : tie.Need-add-fault-behind Inv-loop μ-loop
-add-fault-behind c = let h = head-held (c .before .before .before .before .before .before .before .before .before .before .before .before .args .file .now) (c .before .before .before .before .before .before .before .before .loop .at) (c .before .before .before .before .before .head-at .result) (c .before .before .before .before .before .head-at .ensures .1) (c .before .before .before .found2 .given .1) in let a = h .least in let i = h .inside in omega arith
-
-shared-slice-read-fault-behind : tie.Need-shared-slice-read-fault-behind Inv-loop μ-loop
-shared-slice-read-fault-behind c = let h = head-held (c .before .before .before .before .before .before .before .before .before .before .before .before .before .args .file .now) (c .before .before .before .before .before .before .before .before .before .loop .at) (c .before .before .before .before .before .before .head-at .result) (c .before .before .before .before .before .before .head-at .ensures .1) (c .before .before .before .before .found2 .given .1) in let a = h .least in let i = h .inside in omega arith
-
-sub-fault-behind : tie.Need-sub-fault-behind Inv-loop μ-loop
-sub-fault-behind c = let h = head-held (c .before .before .before .before .before .before .before .before .before .before .before .before .before .args .file .now) (c .before .before .before .before .before .before .before .before .before .loop .at) (c .before .before .before .before .before .before .head-at .result) (c .before .before .before .before .before .before .head-at .ensures .1) (c .before .before .before .before .found2 .given .1) in let a = h .least in let i = h .inside in omega arith
-
-part-fault-behind-start : tie.Need-part-fault-behind-start Inv-loop μ-loop
-part-fault-behind-start c = let h = head-held (c .before .before .before .before .before .before .before .before .before .before .before .before .before .args .file .now) (c .before .before .before .before .before .before .before .before .before .loop .at) (c .before .before .before .before .before .before .head-at .result) (c .before .before .before .before .before .before .head-at .ensures .1) (c .before .before .before .before .found2 .given .1) in let a = h .least in let i = h .inside in omega arith
-
-part-fault-behind-end : tie.Need-part-fault-behind-end Inv-loop μ-loop
-part-fault-behind-end c = let h = head-held (c .before .before .before .before .before .before .before .before .before .before .before .before .before .args .file .now) (c .before .before .before .before .before .before .before .before .before .loop .at) (c .before .before .before .before .before .before .head-at .result) (c .before .before .before .before .before .before .head-at .ensures .1) (c .before .before .before .before .found2 .given .1) in let a = h .least in let i = h .inside in omega arith
-
-fault-behind-requires : tie.Need-fault-behind-requires Inv-loop μ-loop
-fault-behind-requires c κs = let h = head-held (c .before .before .before .before .before .before .before .before .before .before .before .before .before .before .args .file .now) (c .before .before .before .before .before .before .before .before .before .before .loop .at) (c .before .before .before .before .before .before .before .head-at .result) (c .before .before .before .before .before .before .before .head-at .ensures .1) (c .before .before .before .before .before .found2 .given .1) in held-body (c .before .before .before .before .before .before .before .before .before .before .before .before .before .before .args .file .now) (c .before .before .before .before .before .before .before .before .before .before .loop .at) _ h
-
-returns-5 : tie.Need-returns-5 Inv-loop μ-loop
-returns-5 c = on-broken (c .before .before .before .before .before .before .before .before .before .before .before .before .before .before .before .before .args .file .now) (c .before .before .before .before .before .before .before .before .before .before .before .before .loop .p) (c .before .before .before .before .before .before .before .before .before .before .before .before .loop .at) (c .before .before .before .before .before .before .before .before .before .before .before .before .loop .length) (c .before .before .before .before .before .before .before .before .before .before .before .before .loop .inv) (sym (c .before .before .before .before .before .before .before .before .before .before .before .has-ended .ensures) ∙ c .before .before .before .before .before .before .before .before .before .before .if2 .left) (c .before .before .before .before .before .before .before .before .before .head-at .result) (c .before .before .before .before .before .before .before .before .before .head-at .ensures) (c .before .before .before .before .before .before .before .found2 .given .1) (c .before .before .before .before .phase-after .ensures) (c .before .fault-behind .ensures) (c .if4 .taken)
 
 taken-by-requires : tie.Need-taken-by-requires Inv-loop μ-loop
 taken-by-requires c κs = search needs
 
 add-length : tie.Need-add-length Inv-loop μ-loop
-add-length c = let h = head-held (c .before .before .before .before .before .before .before .before .before .before .before .before .before .before .before .before .before .args .file .now) (c .before .before .before .before .before .before .before .before .before .before .before .before .before .loop .at) (c .before .before .before .before .before .before .before .before .before .before .head-at .result) (c .before .before .before .before .before .before .before .before .before .before .head-at .ensures .1) (c .before .before .before .before .before .before .before .before .found2 .given .1) in let a = h .least in let i = h .inside in let w = taken-le (getD (c .before .before .before .before .before .before .before .before .before .before .before .before .before .before .before .before .before .args .file .now) ((c .before .before .before .before .before .before .before .before .before .before .before .before .before .loop .at) + 2) 0) _ (c .taken-by .ensures) in let s = (c .before .before .before .before .before .before .before .before .before .before .before .before .before .loop .inv) .short in omega arith
+add-length c = let g = judged-good (c .before .before .before .before .before .before .before .before .before .args .file .now) (c .before .before .before .before .before .loop .p) (c .before .before .before .before .before .loop .at) (c .before .before .before .before .judge .ensures) (c .before .before .found2 .given .1) in let i = g .held .inside in let w = taken-le (kindIn ((c .before .before .found2 .given .0 .0) .kind)) ((c .before .before .found2 .given .0 .0) .size) (c .taken-by .ensures) in let s = (c .before .before .before .before .before .loop .inv .1) in omega arith
 
 add-at : tie.Need-add-at Inv-loop μ-loop
-add-at c = let h = head-held (c .before .before .before .before .before .before .before .before .before .before .before .before .before .before .before .before .before .args .file .now) (c .before .before .before .before .before .before .before .before .before .before .before .before .before .loop .at) (c .before .before .before .before .before .before .before .before .before .before .head-at .result) (c .before .before .before .before .before .before .before .before .before .before .head-at .ensures .1) (c .before .before .before .before .before .before .before .before .found2 .given .1) in let a = h .least in let i = h .inside in omega arith
+add-at c = let g = judged-good (c .before .before .before .before .before .before .before .before .before .before .args .file .now) (c .before .before .before .before .before .before .loop .p) (c .before .before .before .before .before .before .loop .at) (c .before .before .before .before .before .judge .ensures) (c .before .before .before .found2 .given .1) in let i = g .held .inside in let a = g .held .least in omega arith
 
 loop-less : tie.Need-loop-less Inv-loop μ-loop
-loop-less c = let h = head-held (c .before .before .before .before .before .before .before .before .before .before .before .before .before .before .before .before .before .args .file .now) (c .before .before .before .before .before .before .before .before .before .before .before .before .before .loop .at) (c .before .before .before .before .before .before .before .before .before .before .head-at .result) (c .before .before .before .before .before .before .before .before .before .before .head-at .ensures .1) (c .before .before .before .before .before .before .before .before .found2 .given .1) in let a = h .least in let i = h .inside in omega arith
+loop-less c = let g = judged-good (c .before .before .before .before .before .before .before .before .before .before .args .file .now) (c .before .before .before .before .before .before .loop .p) (c .before .before .before .before .before .before .loop .at) (c .before .before .before .before .before .judge .ensures) (c .before .before .before .found2 .given .1) in let i = g .held .inside in let a = g .held .least in omega arith
 
 loop-again : tie.Need-loop-again Inv-loop μ-loop
-loop-again c = on-next (c .before .before .before .before .before .before .before .before .before .before .before .before .before .before .before .before .before .args .file .now) (c .before .before .before .before .before .before .before .before .before .before .before .before .before .loop .p) (c .before .before .before .before .before .before .before .before .before .before .before .before .before .loop .at) (c .before .before .before .before .before .before .before .before .before .before .before .before .before .loop .length) (c .before .before .before .before .before .before .before .before .before .before .before .before .before .loop .inv) (sym (c .before .before .before .before .before .before .before .before .before .before .before .before .has-ended .ensures) ∙ c .before .before .before .before .before .before .before .before .before .before .before .if2 .left) (c .before .before .before .before .before .before .before .before .before .before .head-at .result) (c .before .before .before .before .before .before .before .before .before .before .head-at .ensures) (c .before .before .before .before .before .before .before .before .found2 .given .1) (c .before .before .before .before .before .phase-after .ensures) (c .before .before .fault-behind .ensures) (c .before .if4 .left) (λ i. c .before .before .before .before .before .before .before .before .before .before .before .before .before .before .before .before .shared-slice-known .given i .fits) (c .taken-by .ensures)
+loop-again c = let g = judged-good (c .before .before .before .before .before .before .before .before .before .before .args .file .now) (c .before .before .before .before .before .before .loop .p) (c .before .before .before .before .before .before .loop .at) (c .before .before .before .before .before .judge .ensures) (c .before .before .before .found2 .given .1) in let w = taken-le (kindIn ((c .before .before .before .found2 .given .0 .0) .kind)) ((c .before .before .before .found2 .given .0 .0) .size) (c .before .taken-by .ensures) in let s = (c .before .before .before .before .before .before .loop .inv .1) in let i = g .held .inside in (asked-go ask (measureOf (c .before .before .before .before .before .before .before .before .before .before .args .file .now)) (c .before .before .before .before .before .before .before .before .before .before .args .file .now) (c .before .before .before .before .before .before .loop .p) (c .before .before .before .before .before .before .loop .at) (c .before .before .before .before .before .before .loop .length) (c .before .before .before .before .before .before .loop .inv .0) (c .before .before .before .before .before .judge .ensures) (c .before .before .before .found2 .given .1) _ (λ d w k. ask-go (c .before .before .before .before .before .before .before .before .before .before .args .file .now) (λ i. (c .before .before .before .before .before .before .before .before .before .shared-slice-known .given i .fits)) d (c .before .before .before .before .before .before .loop .at) (g .held) (g .read) k (c .before .before .before .before .before .before .loop .length) _ w (c .before .taken-by .ensures)), omega arith)
 
 pub measure-spec : {M : Type 1} → statement M
 measure-spec =
@@ -107,25 +68,11 @@ measure-spec =
     opening-fault-requires
     returns
     loop-holds
-    has-ended-requires
-    returns-2
-    returns-3
-    head-at-requires
+    judge-requires
     enum-known-found
-    returns-4
+    with-length-requires
+    returns-2
     enum-known-found-2
-    add-from
-    add-to
-    add-t
-    shared-slice-read-t
-    phase-after-requires
-    add-fault-behind
-    shared-slice-read-fault-behind
-    sub-fault-behind
-    part-fault-behind-start
-    part-fault-behind-end
-    fault-behind-requires
-    returns-5
     taken-by-requires
     add-length
     add-at
