@@ -15,7 +15,7 @@ SANITIZE := -g -fsanitize=address,undefined -fno-sanitize-recover=all
 ARCHIVE := target/staticlib/libcgx_c.a
 SOURCES := crates.txt $(shell find crates -name '*.rt' -o -name '*.antt')
 EXAMPLES := build/boxes build/labels build/samples
-TESTS := build/test build/test-sanitized build/labels-sanitized build/cases build/queries build/freestanding
+TESTS := build/test build/test-sanitized build/labels-sanitized build/vectors build/freestanding
 SUITE := $(wildcard tests/c/*.c)
 SUITE_HEADERS := $(wildcard tests/c/*.h) include/cgx.h
 
@@ -41,7 +41,7 @@ build/test: $(SUITE) $(SUITE_HEADERS) build/libcgx.a
 build/test-sanitized: $(SUITE) $(SUITE_HEADERS) build/libcgx.a
 	$(CC) $(STRICT) $(SANITIZE) $(CPPFLAGS) -Iinclude $(SUITE) build/libcgx.a -o $@
 
-build/cases build/queries: build/%: tests/c/programs/%.c tests/c/programs/reading.h include/cgx.h build/libcgx.a
+build/vectors: tests/c/programs/vectors.c include/cgx.h build/libcgx.a
 	$(CC) $(STRICT) $(SANITIZE) $(CPPFLAGS) -Iinclude $< build/libcgx.a -o $@
 
 # No C library and no start-up code: the archive is all that is linked.

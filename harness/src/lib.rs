@@ -9,6 +9,7 @@
 //! * [`archive`] calls the proved crates, with the same types.
 //! * [`plain_c`] calls the plain C that both are measured against.
 //! * [`compare`] asks both the same and tells where they differ.
+//! * [`vectors`] has the stored files and what the reference says of them.
 
 #![deny(unsafe_code)]
 
@@ -18,3 +19,4 @@ pub mod drive;
 pub mod generate;
 pub mod plain_c;
 pub mod reference;
+pub mod vectors;
