@@ -4,10 +4,10 @@
 //
 //   NAME
 //   refused N at P                   where the file begins badly; else of each step
-//   peek OFFSET KIND flags F ..      what `peek` answers: a record, done, or refused N at P
-//     text "BYTES"                   the text of the record
-//   next OFFSET KIND flags F ..      what `next` answers
-//     place OFFSET cell C ..         where the reader is then
+//   peek OFFSET                      what `peek` answers: the record at this offset, done, or refused N at P
+//   peek OFFSET "BYTES"              the same of a TEXT, with its label
+//   next OFFSET                      what `next` answers, in the same way
+//     place OFFSET cell C layer L ..   where the reader is then
 //   layer OFFSET "BYTES"             the name shown for each good LAYER, asked at every offset
 //
 // After the end or a refusal one step more is taken, which must answer the same and leave the reader where it is.

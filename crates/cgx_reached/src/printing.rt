@@ -1,8 +1,6 @@
-// Offset, kind, flags and context of a record, a place, a refusal, and a text. `then_` prints a space first. No contract can speak of
+// A place, a refusal, and a text. `then_` prints a space first. No contract can speak of
 // what is written: each function is safe and ends.
-use cgx_kinds::View;
 use cgx_spec::Context;
-use cgx_spec::Kind;
 use cgx_spec::Offset;
 use cgx_spec::Place;
 use cgx_spec::Run;
@@ -53,29 +51,15 @@ fn show_context(c: Context) {
     let cell = c.cell;
     let layer = c.layer;
     let run = c.run;
-    open(cell, layer, run);
+    offset(b" cell", cell);
+    offset(b" layer", layer);
+    show_run(run);
     if_so(c.library, b" library");
     if_so(c.fresh, b" fresh");
     if_so(c.ended, b" ended");
 }
 
-pub fn show_head(v: View) {
-    let kind = v.kind;
-    let cell = v.cell;
-    let layer = v.layer;
-    let run = v.run;
-    then_size(v.at);
-    show_kind(kind);
-    print(b" flags");
-    then_number(v.flags as u64);
-    open(cell, layer, run);
-    print(b"\n");
-}
-
-// The offsets of a cell and a layer, and a run of properties.
-fn open(cell: Offset, layer: Offset, run: Run) {
-    offset(b" cell", cell);
-    offset(b" layer", layer);
+fn show_run(run: Run) {
     match run {
         Run::Empty => print(b" run -"),
         Run::Of { first, count } => {
@@ -98,21 +82,5 @@ fn offset(word: &[u8], o: Offset) {
 fn if_so(b: bool, word: &[u8]) {
     if b {
         print(word);
-    }
-}
-
-fn show_kind(k: Kind) {
-    match k {
-        Kind::Library => print(b" LIBRARY"),
-        Kind::Struct => print(b" STRUCT"),
-        Kind::Cprpty => print(b" CPRPTY"),
-        Kind::Property => print(b" PROPERTY"),
-        Kind::Layer => print(b" LAYER"),
-        Kind::Box => print(b" BOX"),
-        Kind::Poly => print(b" POLY"),
-        Kind::Wire => print(b" WIRE"),
-        Kind::Text => print(b" TEXT"),
-        Kind::Sref => print(b" SREF"),
-        Kind::Endlib => print(b" ENDLIB"),
     }
 }

@@ -1,15 +1,11 @@
-// What a reader answers over a file, to its end or refusal and a step further, and the texts of the records.
+// What a reader answers over a file, to its end or refusal and a step further, and the labels of the texts.
 use crate::printing::print;
 use crate::printing::quoted;
-use crate::printing::show_head;
 use crate::printing::show_place;
 use crate::printing::show_refusal;
+use crate::printing::then_size;
 use cgx_kinds::Fields;
-use cgx_kinds::Layer;
-use cgx_kinds::Name;
-use cgx_kinds::Span;
 use cgx_lists::text_bytes;
-use cgx_reader::Moved;
 use cgx_reader::read_next;
 use cgx_reader::read_on;
 use cgx_spec::Offset;
@@ -30,10 +26,9 @@ fn read_from(file: &[u8], first: Place) {
     let mut place = first;
     let mut turns = file.len();
     while turns > 0 {
-        let moved = show_step(file, place);
-        place = moved.place;
-        let outcome = moved.outcome;
-        if !is_record(outcome) {
+        let step = show_step(file, place);
+        place = step.place;
+        if !step.more {
             show_step(file, place);
             return;
         }
@@ -42,25 +37,38 @@ fn read_from(file: &[u8], first: Place) {
     print(b"without end\n");
 }
 
+// Where a reader is after a step, and whether it was given a record.
+struct Stepped {
+    more: bool,
+    place: Place,
+}
+
 // One step of a reader at this place.
-fn show_step(file: &[u8], place: Place) -> Moved {
-    let peeked = read_next(file, place);
+fn show_step(file: &[u8], place: Place) -> Stepped {
     print(b"peek");
-    show_outcome(peeked);
-    show_texts(file, peeked);
+    show_outcome(file, read_next(file, place));
     let moved = read_on(file, place);
     let outcome = moved.outcome;
     let after = moved.place;
     print(b"next");
-    show_outcome(outcome);
+    let more = show_outcome(file, outcome);
     show_place(after);
-    moved
+    Stepped { more, place: after }
 }
 
-fn show_outcome(o: Outcome) {
+// Whether it is a record.
+fn show_outcome(file: &[u8], o: Outcome) -> bool {
     match o {
-        Outcome::Record(view, _) => show_head(view),
-        Outcome::Done => print(b" done\n"),
+        Outcome::Record(view, _) => {
+            let fields = view.fields;
+            then_size(view.at);
+            show_label(file, fields);
+            true
+        }
+        Outcome::Done => {
+            print(b" done\n");
+            false
+        }
         Outcome::Refused {
             number,
             at,
@@ -68,62 +76,15 @@ fn show_outcome(o: Outcome) {
         } => {
             print(b" ");
             show_refusal(number, at);
+            false
         }
     }
 }
 
-fn is_record(o: Outcome) -> bool {
-    match o {
-        Outcome::Record(_, _) => true,
-        Outcome::Done => false,
-        Outcome::Refused {
-            number: _,
-            at: _,
-            place: _,
-        } => false,
+fn show_label(file: &[u8], f: Fields) {
+    if let Fields::Text(r) = f {
+        quoted(text_bytes(file, r.label));
+    } else {
+        print(b"\n");
     }
-}
-
-fn show_texts(file: &[u8], o: Outcome) {
-    match o {
-        Outcome::Record(view, _) => {
-            let fields = view.fields;
-            show_text_of(file, fields);
-        }
-        Outcome::Done => {}
-        Outcome::Refused {
-            number: _,
-            at: _,
-            place: _,
-        } => {}
-    }
-}
-
-fn show_text_of(file: &[u8], f: Fields) {
-    match f {
-        Fields::Library(r) => show_text(file, r.name),
-        Fields::Struct(r) => show_text(file, r.name),
-        Fields::Cprpty(r) => show_text(file, r.value),
-        Fields::Property(r) => show_text(file, r.value),
-        Fields::Layer(r) => show_name_of(file, r),
-        Fields::Text(r) => show_text(file, r.label),
-        Fields::Sref(r) => show_text(file, r.name),
-        Fields::Box(_) => {}
-        Fields::Poly(_) => {}
-        Fields::Wire(_) => {}
-        Fields::Endlib => {}
-    }
-}
-
-fn show_name_of(file: &[u8], r: Layer) {
-    let name = r.name;
-    match name {
-        Name::Absent => {}
-        Name::Present(span) => show_text(file, span),
-    }
-}
-
-fn show_text(file: &[u8], s: Span) {
-    print(b"  text");
-    quoted(text_bytes(file, s));
 }

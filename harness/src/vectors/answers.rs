@@ -171,7 +171,7 @@ pub fn place_line(place: Place) -> String {
 }
 
 /// Offset, kind, flags and context of a record.
-pub fn head(view: &View) -> String {
+fn head(view: &View) -> String {
     let run = view.run_first.map(|first| Run {
         first,
         count: view.run_count,

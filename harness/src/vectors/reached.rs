@@ -1,18 +1,19 @@
 //! What `cgx_reached` prints: the answers that only Rattle can reach.
 
-use super::answers::{head, place_line, SUBSTITUTE};
+use super::answers::{place_line, SUBSTITUTE};
 use super::stored::Case;
 use crate::reference::{
-    good_layer, layer_name, start, step, Fields, Place, Refusal, Source, Step, Text, View,
+    good_layer, layer_name, start, step, Fields, Place, Refusal, Source, Step, Text,
 };
 
 /// The vectors that `cgx_reached` is run on.
-pub const REACHED: [&str; 9] = [
+pub const REACHED: [&str; 10] = [
     "query-every-kind-unknown-between",
     "query-three-cells",
     "query-layers",
     "query-layers-bad",
     "query-refused-in-later-cell",
+    "query-text-empty",
     "query-text-greek",
     "query-tail",
     "query-empty",
@@ -20,7 +21,7 @@ pub const REACHED: [&str; 9] = [
 ];
 
 /// All that it prints of a file: what a reader answers, to its end or refusal
-/// and a step further, the texts of the records, and the layer names.
+/// and a step further, with the labels, and the layer names.
 pub fn reached(case: &Case) -> String {
     let file = &case.bytes;
     let mut text = format!("{}\n", case.name);
@@ -36,23 +37,15 @@ fn reading(file: &[u8], mut place: Place) -> String {
     let mut last = false;
     loop {
         let answer = step(file, place);
-        let (line, bytes) = match &answer {
-            Step::Record(view, _) => (head(view), texts(file, view)),
-            Step::Done => ("done".to_string(), String::new()),
-            Step::Refused { number, at, .. } => {
-                let (number, at) = (*number, *at);
-                (Refusal { number, at }.to_string(), String::new())
-            }
-        };
+        let line = line(file, &answer);
         let more = match answer {
             Step::Record(_, after) => {
                 place = after;
                 true
             }
-            _ => false,
+            Step::Done | Step::Refused { .. } => false,
         };
-        let left_at = place_line(place);
-        text += &format!("peek {line}\n{bytes}next {line}\n  {left_at}\n");
+        text += &format!("peek {line}\nnext {line}\n  {}\n", place_line(place));
         if last {
             return text;
         }
@@ -60,19 +53,18 @@ fn reading(file: &[u8], mut place: Place) -> String {
     }
 }
 
-fn texts(file: &[u8], view: &View) -> String {
-    let text = match view.fields {
-        Fields::Library { name, .. } | Fields::Struct { name, .. } | Fields::Sref { name, .. } => {
-            Some(name)
-        }
-        Fields::Cprpty { string, .. } | Fields::Property { string, .. } => Some(string),
-        Fields::Layer { name, .. } => name,
-        Fields::Text { label, .. } => Some(label),
-        Fields::Box { .. } | Fields::Poly { .. } | Fields::Wire { .. } | Fields::Endlib => None,
-    };
-    text.map_or(String::new(), |text| {
-        format!("  text {}\n", quoted(text.in_file(file)))
-    })
+/// The record's offset, and the label of a TEXT; or done, or the refusal.
+fn line(file: &[u8], answer: &Step) -> String {
+    match *answer {
+        Step::Record(view, _) => match view.fields {
+            Fields::Text { label, .. } => {
+                format!("{} {}", view.offset, quoted(label.in_file(file)))
+            }
+            _ => view.offset.to_string(),
+        },
+        Step::Done => "done".to_string(),
+        Step::Refused { number, at, .. } => Refusal { number, at }.to_string(),
+    }
 }
 
 fn names(file: &[u8]) -> String {

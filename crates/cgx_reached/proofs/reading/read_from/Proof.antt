@@ -16,9 +16,6 @@ loop-holds c = search needs
 show-step-requires : tie.Need-show-step-requires Inv-loop μ-loop
 show-step-requires c κs = tt
 
-is-record-requires : tie.Need-is-record-requires Inv-loop μ-loop
-is-record-requires c κs = tt
-
 show-step-requires-2 : tie.Need-show-step-requires-2 Inv-loop μ-loop
 show-step-requires-2 c κs = tt
 
@@ -51,7 +48,6 @@ read-from-spec =
     μ-loop
     loop-holds
     show-step-requires
-    is-record-requires
     show-step-requires-2
     returns
     sub-turns
