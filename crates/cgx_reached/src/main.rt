@@ -3,12 +3,12 @@
 // files, and says what is to be printed of each (`cargo run --bin vectors -- --write`):
 //
 //   NAME
-//   refused N at P                   where the file begins badly; else of each step
-//   peek OFFSET                      what `peek` answers: the record at this offset, done, or refused N at P
-//   peek OFFSET "BYTES"              the same of a TEXT, with its label
-//   next OFFSET                      what `next` answers, in the same way
-//     place OFFSET cell C layer L ..   where the reader is then
-//   layer OFFSET "BYTES"             the name shown for each good LAYER, asked at every offset
+//   refused N at P         where the file begins badly; else of each step
+//   peek OFFSET            what `peek` answers: the record at this offset, done, or refused N at P
+//   peek OFFSET "BYTES"    the same of a TEXT, with its label
+//   next OFFSET            what `next` answers, in the same way
+//     place OFFSET         where the reader is then
+//   layer OFFSET "BYTES"   the name shown for each good LAYER, asked at every offset
 //
 // After the end or a refusal one step more is taken, which must answer the same and leave the reader where it is.
 mod names;
@@ -41,9 +41,9 @@ fn one(i: usize) {
     }
 }
 
-// No file is longer than 4,096 bytes.
+// No file is longer than the 4,096 bytes of the buffer.
 fn show_file(fd: i32) {
-    let mut buf = [0u8; 4096];
+    let mut buf = io::buffer();
     let n = io::read_full(fd, &mut buf);
     show(&buf[..n]);
 }

@@ -1,9 +1,6 @@
-// A place, a refusal, and a text. `then_` prints a space first. No contract can speak of
-// what is written: each function is safe and ends.
-use cgx_spec::Context;
+// Numbers, texts, refusals and places. `then_` prints a space first. No contract can speak of what is written: each function is safe
+// and ends.
 use cgx_spec::Offset;
-use cgx_spec::Place;
-use cgx_spec::Run;
 use libc::STDOUT_FILENO;
 
 pub fn print(text: &[u8]) {
@@ -39,48 +36,8 @@ pub fn show_refusal(n: u8, at: Offset) {
     }
 }
 
-pub fn show_place(p: Place) {
-    let c = p.context;
+pub fn show_place(at: usize) {
     print(b"  place");
-    then_size(p.at);
-    show_context(c);
+    then_size(at);
     print(b"\n");
-}
-
-fn show_context(c: Context) {
-    let cell = c.cell;
-    let layer = c.layer;
-    let run = c.run;
-    offset(b" cell", cell);
-    offset(b" layer", layer);
-    show_run(run);
-    if_so(c.library, b" library");
-    if_so(c.fresh, b" fresh");
-    if_so(c.ended, b" ended");
-}
-
-fn show_run(run: Run) {
-    match run {
-        Run::Empty => print(b" run -"),
-        Run::Of { first, count } => {
-            print(b" run");
-            then_size(first);
-            print(b"+");
-            io::print_decimal(STDOUT_FILENO, count as u64);
-        }
-    }
-}
-
-fn offset(word: &[u8], o: Offset) {
-    print(word);
-    match o {
-        Offset::Nowhere => print(b" -"),
-        Offset::At(at) => then_size(at),
-    }
-}
-
-fn if_so(b: bool, word: &[u8]) {
-    if b {
-        print(word);
-    }
 }

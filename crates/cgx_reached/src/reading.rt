@@ -52,7 +52,7 @@ fn show_step(file: &[u8], place: Place) -> Stepped {
     let after = moved.place;
     print(b"next");
     let more = show_outcome(file, outcome);
-    show_place(after);
+    show_place(after.at);
     Stepped { more, place: after }
 }
 

@@ -1,13 +1,14 @@
 //! What `cgx_reached` prints: the answers that only Rattle can reach.
 
-use super::answers::{place_line, SUBSTITUTE};
+use super::answers::SUBSTITUTE;
 use super::stored::Case;
 use crate::reference::{
     good_layer, layer_name, start, step, Fields, Place, Refusal, Source, Step, Text,
 };
 
-/// The vectors that `cgx_reached` is run on.
-pub const REACHED: [&str; 10] = [
+/// The vectors that `cgx_reached` is run on. A reader that lost a part of its
+/// context on the way would answer one of them otherwise.
+pub const REACHED: [&str; 11] = [
     "query-every-kind-unknown-between",
     "query-three-cells",
     "query-layers",
@@ -15,6 +16,7 @@ pub const REACHED: [&str; 10] = [
     "query-refused-in-later-cell",
     "query-text-empty",
     "query-text-greek",
+    "after-property-endlib",
     "query-tail",
     "query-empty",
     "query-level-1",
@@ -45,7 +47,10 @@ fn reading(file: &[u8], mut place: Place) -> String {
             }
             Step::Done | Step::Refused { .. } => false,
         };
-        text += &format!("peek {line}\nnext {line}\n  {}\n", place_line(place));
+        text += &format!(
+            "peek {line}\nnext {line}\n  {}\n",
+            format_args!("place {}", place.offset)
+        );
         if last {
             return text;
         }
