@@ -158,7 +158,7 @@ fn context(cell: Option<usize>, layer: Option<usize>, run: Option<Run>) -> Strin
     format!("cell {} layer {} run {run}", or_dash(cell), or_dash(layer))
 }
 
-pub fn place_line(place: Place) -> String {
+fn place_line(place: Place) -> String {
     let mark = |so: bool, word: &'static str| if so { word } else { "" };
     format!(
         "place {} {}{}{}{}",

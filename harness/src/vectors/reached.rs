@@ -47,10 +47,7 @@ fn reading(file: &[u8], mut place: Place) -> String {
             }
             Step::Done | Step::Refused { .. } => false,
         };
-        text += &format!(
-            "peek {line}\nnext {line}\n  {}\n",
-            format_args!("place {}", place.offset)
-        );
+        text += &format!("peek {line}\nnext {line}\n  place {}\n", place.offset);
         if last {
             return text;
         }

@@ -7,7 +7,7 @@
 #include <stdarg.h>
 #include <stdio.h>
 
-enum { LARGEST = 200000, LONGEST = 16384, MOST_ITEMS = 64, MARGIN = 64, FILLER = 170 };
+enum { LARGEST = 200000, LONGEST = 16384, NAME = 200, MOST_ITEMS = 64, MARGIN = 64, FILLER = 170 };
 
 /* A file, and the output that is lent to the normal-form maker. */
 static uint8_t file[LARGEST];
@@ -15,8 +15,6 @@ static size_t size;
 static uint8_t out[LARGEST + MARGIN];
 
 /* ---- checksums: FNV's start and factor, with a sum in place of its exclusive or */
-
-enum { NAME = 200 };
 
 static const uint32_t EMPTY = 2166136261u;
 
@@ -537,6 +535,7 @@ int main(int argc, char **argv) {
         }
         if (digests) {
             printf("%s %08lx\n", name, (unsigned long)digest);
+            fflush(stdout);
             continue;
         }
         if (!differs && after(next, "  ") != NULL) {
