@@ -1,0 +1,2 @@
+-- Offsets and runs as numbers.
+pub mod Laws

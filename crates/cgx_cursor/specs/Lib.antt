@@ -1,0 +1,2 @@
+-- Which places cursors are.
+pub mod Cursors
