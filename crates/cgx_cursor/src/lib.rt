@@ -1,13 +1,11 @@
 // A walk's and a writer's place in plain numbers, where 0 is none: no record has offset 0. `placeIn` says which place of the definitions a cursor is.
 ghost use mathlib.Core.Path.{_≡_};
-ghost use mathlib.Core.Bool.{cond};
 ghost use mathlib.Core.Option.{some};
-ghost use lib.Dec.{eqb};
-ghost use Prim.Native.Nat.{_+_, _<_};
+ghost use Prim.Native.Nat.{_<_};
 ghost use Rattle.cgx_spec.specs.Order.{start, allowed, next};
 ghost use Rattle.cgx_spec.specs.Walking.{firstPlace, forged, runUpTo};
 ghost use Rattle.cgx_headers.specs.Headers.{kindIn};
-ghost use Rattle.cgx_cursor.specs.Cursors.{runIn, contextIn, placeIn, stateOf, cursorOf, noneAwaiting};
+ghost use Rattle.cgx_cursor.specs.Cursors.{runIn, contextIn, placeIn, stateOf, cursorOf, needsMet, noneAwaiting, firstOf, stateAfter};
 use cgx_headers::RecordType;
 use cgx_spec::Kind;
 
@@ -101,9 +99,15 @@ pub fn allows_type(s: State, t: RecordType) -> bool
     }
 }
 
-// Each need of the kind is met, in the order of `Need`.
 pub fn allows(s: State, k: Kind) -> bool
     ensures { λ r. ⌜ r ≡ allowed (contextIn s) (some k) ⌝ }
+{
+    needs_met(s, k)
+}
+
+// Each need of the kind, in the order of `Need`.
+fn needs_met(s: State, k: Kind) -> bool
+    ensures { λ r. ⌜ r ≡ needsMet s k ⌝ }
 {
     let library = s.library;
     let fresh = s.fresh;
@@ -131,6 +135,13 @@ pub fn allows(s: State, k: Kind) -> bool
 pub fn next_state(s: State, at: usize, k: Kind) -> State
     requires { ⌜ (0 < at) × (s .count < 18446744073709551615) ⌝ }
     ensures { λ r. ⌜ r ≡ stateOf (next (contextIn s) at (some k)) ⌝ }
+{
+    state_after(s, at, k)
+}
+
+fn state_after(s: State, at: usize, k: Kind) -> State
+    requires { ⌜ s .count < 18446744073709551615 ⌝ }
+    ensures { λ r. ⌜ r ≡ stateAfter s at k ⌝ }
 {
     match k {
         Kind::Library => State {
@@ -188,7 +199,7 @@ fn none_awaiting(s: State, layer: usize, fresh: bool, ended: bool) -> State
 
 // The first of a run with one more PROPERTY at an offset.
 fn first_of(first: usize, count: usize, at: usize) -> usize
-    ensures { λ r. ⌜ r ≡ cond (eqb count 0) at first ⌝ }
+    ensures { λ r. ⌜ r ≡ firstOf first count at ⌝ }
 {
     if count == 0 { at } else { first }
 }

@@ -43,7 +43,7 @@ met c NoneAwaiting = not (awaiting (c .run))
 met c OnlyCprpty = c .fresh
 
 -- What a record of this kind, or of an unknown type, needs, in the order of `Need`.
-unfoldable pub needsOf : Option Kind → List Need
+abbrev pub needsOf : Option Kind → List Need
 needsOf none = LibraryBefore ∷ []
 needsOf (some Library) = NoLibraryBefore ∷ NoneAwaiting ∷ []
 needsOf (some Struct) = LibraryBefore ∷ NoneAwaiting ∷ []
@@ -73,7 +73,7 @@ abbrev pub afterObject : Context → Context
 afterObject c = record { library = c .library; cell = c .cell; layer = c .layer; fresh = false; run = Empty; ended = false }
 
 -- The context after a record at this offset. Of unknown types "these rules read as if they were absent".
-unfoldable pub next : Context → ℕ → Option Kind → Context
+abbrev pub next : Context → ℕ → Option Kind → Context
 next c at none = c
 next c at (some Library) = record { library = true; cell = Nowhere; layer = Nowhere; fresh = false; run = Empty; ended = false }
 -- "STRUCT opens a cell and clears the layer."
@@ -91,7 +91,7 @@ next c at (some Sref) = afterObject c
 next c at (some Endlib) = record { library = c .library; cell = c .cell; layer = c .layer; fresh = false; run = Empty; ended = true }
 
 -- The kinds that take a run: the objects.
-unfoldable pub isObject : Kind → Bool
+abbrev pub isObject : Kind → Bool
 isObject Library = false
 isObject Struct = false
 isObject Cprpty = false
