@@ -7,7 +7,7 @@ use lib.Dec.{T}
 use Rattle.cgx_spec.specs.declared.Kind.{Kind}
 use Rattle.cgx_spec.specs.declared.Kind.the-variants.{Library as LIBRARY, Struct as STRUCT, Cprpty as CPRPTY, Property as PROPERTY, Layer as LAYER, Box as BOX, Poly as POLY, Wire as WIRE, Text as TEXT, Sref as SREF, Endlib as ENDLIB}
 use Rattle.cgx_spec.specs.declared.Context.{Context}
-use Rattle.cgx_spec.specs.Order.{start, needsOf, allowed, next}
+use Rattle.cgx_spec.specs.Order.{start, allowed, next}
 use Rattle.cgx_spec.proofs.Chain.{State, stateOf, may, then, may-is, then-is}
 use Rattle.cgx_phases.specs.declared.Phase.{Phase}
 use Rattle.cgx_phases.specs.declared.Phase.the-variants.{Start, Library, Fresh, Cell, Layer, CellRun, LayerRun, Ended, Refused}
@@ -43,7 +43,7 @@ each-kind q u l s c p y b o w t r e (some ENDLIB) = e
 
 -- the table is rule 6 and what follows from a record, of the states, by computation
 table : (p : Phase) → isEnded p ≡ false → (o : Option Kind) → Agrees p o
-unfolding may then needsOf
+unfolding may then
 table Start e = each-kind Start refl refl refl refl refl refl refl refl refl refl refl refl
 table Library e = each-kind Library refl refl refl refl refl refl refl refl refl refl refl refl
 table Fresh e = each-kind Fresh refl refl refl refl refl refl refl refl refl refl refl refl

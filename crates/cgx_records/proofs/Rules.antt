@@ -8,7 +8,7 @@ use native.Mathlib.Omega.{arith}
 use lib.Dec.{T}
 use Rattle.cgx_spec.specs.Fields.{pieces}
 use Rattle.cgx_spec.specs.Kinds.{goodFlags, layout}
-use Rattle.cgx_spec.specs.Order.{needsOf, allowed}
+use Rattle.cgx_spec.specs.Order.{allowed}
 use Rattle.cgx_spec.specs.Records.{Rec, rule, rules, piecesOf, fieldRules, broken}
 use Rattle.cgx_spec.specs.declared.Kind.{Kind}
 use Rattle.cgx_spec.specs.declared.Context.{Context}
@@ -50,7 +50,7 @@ unknown-0 h r = sym (ap (λ (x : Bool). ruleFault x none r) h)
 
 -- an unknown record needs a LIBRARY before it
 pub unknown-needs : (c : Context) → c .library ≡ allowed c none
-unfolding allowed needsOf
+unfolding allowed
 unknown-needs c = sym (and-true (c .library))
 
 -- ---- needs, as `every` has them

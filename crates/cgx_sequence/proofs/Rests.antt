@@ -170,7 +170,7 @@ module _ (f : List ℕ) (from at : ℕ) (i : from ≤ at) (p : Passes f from at)
       ∙ ap (λ (n : ℕ). ifPlaced o (record { at = at; context = c; rec = r }) (knownPlaces (placeAll (next c at o) (at + n) (t .more)))) (held-size f at (t .held-in))
 
   pub passes-unknown : h .kind ≡ Unknown → Passes f from (at + h .size)
-  unfolding known recAt next
+  unfolding known recAt
   passes-unknown q =
       λ rs g.
       let t = turn f at (h .size) (p rs g .more) (p rs g .rest) l (size-says f at e) in

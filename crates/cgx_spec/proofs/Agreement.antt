@@ -201,7 +201,7 @@ abbrev pub onto : Option Kind → ℕ → List Behind → List Behind
 onto o at bs = elim o [ none ↦ bs | some k ↦ record { kind = k; at = at } ∷ bs ]
 
 pub next-looks : (o : Option Kind) (at : ℕ) (bs : List Behind) → next (lookBack bs) at o ≡ lookBack (onto o at bs)
-unfolding next lookBack typeByte libraryBehind cellBehind layerBehind structBehind propertiesBehind endBehind runBehind
+unfolding lookBack typeByte libraryBehind cellBehind layerBehind structBehind propertiesBehind endBehind runBehind
 next-looks none at bs = refl
 next-looks (some Library) at bs = refl
 next-looks (some Struct) at bs = refl

@@ -146,7 +146,7 @@ waits-on Empty at = refl
 waits-on (Of first count) at = refl
 
 pub then-is : (c : Context) (at : ℕ) (o : Option Kind) → stateOf (next c at o) ≡ then (stateOf c) o
-unfolding next then
+unfolding then
 then-is c at none = refl
 then-is c at (some Library) = refl
 then-is c at (some Struct) = refl

@@ -14,7 +14,7 @@ use Rattle.cgx_spec.specs.Numbers.{Bytes, after}
 use Rattle.cgx_spec.specs.Strings.{same}
 use Rattle.cgx_spec.specs.Fields.{any, good, exactly, normal, join, normalBytes}
 use Rattle.cgx_spec.specs.Kinds.{kindOf, layout}
-use Rattle.cgx_spec.specs.Order.{start, needsOf}
+use Rattle.cgx_spec.specs.Order.{start}
 use Rattle.cgx_spec.specs.Records.{Rec, bytesOf, piecesOf, normalOf, broken, rules}
 use Rattle.cgx_spec.specs.Files.{go, before, header, Accepted, recordsOf, Known, ifKnown, known, sequence, meanings, SameMeaning, normals, normalForm}
 use Rattle.cgx_spec.specs.Written.{Sized, GoodFrom, Added, last, keep, extra, AddedTo, added}
@@ -185,7 +185,7 @@ library-stays s (some Endlib) h = h
 
 -- the first record of an accepted file is LIBRARY
 library-first : (o : Option Kind) (r : Rec) → broken (rules (may first o) o r) ≡ none → then first o .library ≡ true
-unfolding then rules broken start may needsOf
+unfolding then rules broken start may
 library-first none r b = cc
 library-first (some Library) r b = refl
 library-first (some Struct) r b = cc
@@ -207,7 +207,7 @@ chain-added s (extra {u} {rs} {rs'} x a) l c =
     let e : kindOf (u .type) ≡ none = unknown-kind (u .type) (x .type-unknown) in (
       not-ended s a c,
       x .sized,
-      subst (λ (o : Option Kind). broken (rules (may s o) o u) ≡ none) (sym e) (unfold rules broken may needsOf in (ap (λ (b : Bool). cond (b && true) none (some 6)) l)),
+      subst (λ (o : Option Kind). broken (rules (may s o) o u) ≡ none) (sym e) (unfold rules broken may in (ap (λ (b : Bool). cond (b && true) none (some 6)) l)),
       subst (λ (o : Option Kind). Chain (then s o) rs') (sym e) (chain-added s a l c),
     )
 

@@ -15,7 +15,7 @@ use Rattle.cgx_spec.specs.declared.Need.{Need}
 use Rattle.cgx_spec.specs.declared.Need.the-variants.{LibraryBefore, NoLibraryBefore, OpenCell, LayerInForce, NoneAwaiting, OnlyCprpty}
 use Rattle.cgx_spec.specs.Fields.{every, All}
 use Rattle.cgx_spec.specs.Kinds.{kindOf}
-use Rattle.cgx_spec.specs.Order.{stands, awaiting, met, needsOf, allowed}
+use Rattle.cgx_spec.specs.Order.{stands, awaiting, met, allowed}
 use Rattle.cgx_spec.specs.Restated.{typeByte, Behind, libraryBehind, propertiesBehind, runBehind, lookBack}
 use Rattle.cgx_spec.specs.Checks.{oneOf, asks, Met, Kept, needs}
 use Rattle.cgx_spec.proofs.Demand3.{unknown-kind}
@@ -64,7 +64,7 @@ abbrev kept : Context → ℕ → Need → Bool
 kept c t n = not (asks n t) || met c n
 
 by-kind : (c : Context) (k : Kind) → allowed c (kindOf (typeByte k)) ≡ every (kept c (typeByte k)) needs
-unfolding allowed needsOf kindOf typeByte asks
+unfolding allowed kindOf typeByte asks
 by-kind c Library = refl
 by-kind c Struct = refl
 by-kind c Cprpty = refl
@@ -78,7 +78,7 @@ by-kind c Sref = refl
 by-kind c Endlib = refl
 
 of-unknown : (c : Context) (t : ℕ) → 11 ≤ t → allowed c (kindOf t) ≡ every (kept c t) needs
-unfolding allowed needsOf asks
+unfolding allowed asks
 of-unknown c t h =
     rw (unknown-kind t h, not-one (Library ∷ []) t h, not-one (Cprpty ∷ Property ∷ Layer ∷ Box ∷ Poly ∷ Wire ∷ Text ∷ Sref ∷ []) t h, not-one (Box ∷ Poly ∷ Wire ∷ Text ∷ []) t h, not-one (Library ∷ Struct ∷ Cprpty ∷ Layer ∷ Endlib ∷ []) t h, not-one (Cprpty ∷ []) t h) refl
 

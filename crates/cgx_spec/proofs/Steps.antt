@@ -100,7 +100,6 @@ up-longer at at' l (Of first count) t =
     and-both (leb first at') (leb (count + 1) at') (le→leb first at' (omega arith)) (le→leb (count + 1) at' (omega arith))
 
 pub within-next : (c : Context) (at at' : ℕ) (o : Option Kind) → at < at' → Within at c → Within at' (next c at o)
-unfolding next
 within-next c at at' o l w = go o
   where
     here : T (leb at at')

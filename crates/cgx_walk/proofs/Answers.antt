@@ -123,7 +123,7 @@ module _ (f : List ℕ) (c : Context) (at : ℕ) {r : Stepped} (e : Steps f c at
 
     pub from-unknown : kindOf (getD f (at + 2) 0) ≡ none → from f c at ≡ from f c (at + n)
     from-unknown x =
-        let y : contextAfter (placedAt f c at n) ≡ c = after-is x ∙ (unfold next in refl) in
+        let y : contextAfter (placedAt f c at n) ≡ c = after-is x ∙ (refl) in
         cases ∙ ap (λ (o : Option Kind). either o (from f (contextAfter (placedAt f c at n)) (at + n)) (placedAt f c at n)) x
         ∙ ap (λ (d : Context). from f d (at + n)) y
 

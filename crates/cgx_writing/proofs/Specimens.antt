@@ -15,7 +15,7 @@ use Rattle.cgx_spec.specs.Dates.{calendar}
 use Rattle.cgx_spec.specs.Strings.{padded}
 use Rattle.cgx_spec.specs.Fields.{ruleOf, inOrder}
 use Rattle.cgx_spec.specs.Kinds.{kindOf, flagsFor, allows, meant, goodFlags, flagsOf, layout}
-use Rattle.cgx_spec.specs.Order.{start, needsOf, allowed, next}
+use Rattle.cgx_spec.specs.Order.{start, allowed}
 use Rattle.cgx_spec.specs.Records.{size, bytesOf, broken, contextAfter}
 use Rattle.cgx_spec.specs.Restated.{typeByte}
 use Rattle.cgx_spec.specs.Walking.{firstPlace, placeAfter}
@@ -35,7 +35,7 @@ unfolding fileOf bytesOf written stored dateBytes untwos shortBytes longBytes lo
 drawing-file = refl
 
 drawing-whole : Whole firstPlace drawingCalls
-unfolding firstPlace start placeBehind placeAfter contextAfter next kindOf broken rulesOf allowed needsOf goodFlags allows flagsFor flagsOf meant enoughGiven keepsGiven groups enough noZero meets goodList goodItem layout ruleOf inOrder calendar positiveReal positive wordValue written stored dateBytes untwos shortBytes longBytes longsBytes normalReal wordNormal negative exponent mantissa pack lower minus padded typeByte givenLibrary givenStruct givenLayer givenBox givenEndlib
+unfolding firstPlace start placeBehind placeAfter contextAfter kindOf broken rulesOf allowed goodFlags allows flagsFor flagsOf meant enoughGiven keepsGiven groups enough noZero meets goodList goodItem layout ruleOf inOrder calendar positiveReal positive wordValue written stored dateBytes untwos shortBytes longBytes longsBytes normalReal wordNormal negative exponent mantissa pack lower minus padded typeByte givenLibrary givenStruct givenLayer givenBox givenEndlib
 drawing-whole =
     let m = Bytes-cons 0x6d [] (omega arith) Bytes-nil in
     let a = Bytes-cons 0x61 [] (omega arith) Bytes-nil in

@@ -2,7 +2,6 @@
 use mathlib.Core.Path.{ap}
 use mathlib.Core.Bool.{false}
 use Rattle.cgx_spec.specs.declared.Run.{Run}
-use Rattle.cgx_spec.specs.Order.{next}
 use borrow.Author.Needs.{needs}
 use Rattle.cgx_records.proofs.next_context.Statement.{statement}
 use Rattle.cgx_records.proofs.next_context.Tie as tie
@@ -62,47 +61,36 @@ open-cell-requires : tie.Need-open-cell-requires
 open-cell-requires c κs = search needs
 
 returns : tie.Need-returns
-unfolding next
 returns c = rw (c .enum-told .given .1)
 
 returns-2 : tie.Need-returns-2
-unfolding next
 returns-2 c = rw (c .before .enum-told2 .given .1) (c .open-cell .ensures)
 
 returns-3 : tie.Need-returns-3
-unfolding next
 returns-3 c = rw (c .enum-told3 .given .1)
 
 returns-4 : tie.Need-returns-4
-unfolding next
 returns-4 c = rw (c .before .enum-told4 .given .1) (let s = c .before .before .before .args .c in ap (λ (r : Run). record { library = s .library; cell = s .cell; layer = s .layer; fresh = false; run = r; ended = false }) (c .longer-run .ensures))
 
 returns-5 : tie.Need-returns-5
-unfolding next
 returns-5 c = rw (c .enum-told5 .given .1)
 
 returns-6 : tie.Need-returns-6
-unfolding next
 returns-6 c = rw (c .before .enum-told6 .given .1) (c .after-object .ensures)
 
 returns-7 : tie.Need-returns-7
-unfolding next
 returns-7 c = rw (c .before .enum-told7 .given .1) (c .after-object2 .ensures)
 
 returns-8 : tie.Need-returns-8
-unfolding next
 returns-8 c = rw (c .before .enum-told8 .given .1) (c .after-object3 .ensures)
 
 returns-9 : tie.Need-returns-9
-unfolding next
 returns-9 c = rw (c .before .enum-told9 .given .1) (c .after-object4 .ensures)
 
 returns-10 : tie.Need-returns-10
-unfolding next
 returns-10 c = rw (c .before .enum-told10 .given .1) (c .after-object5 .ensures)
 
 returns-11 : tie.Need-returns-11
-unfolding next
 returns-11 c = rw (c .enum-told11 .given .1)
 
 pub next-context-spec : {M : Type 1} → statement M

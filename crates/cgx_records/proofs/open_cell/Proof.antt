@@ -1,11 +1,9 @@
 -- Field by field.
 use mathlib.Core.Path.{refl}
-use Rattle.cgx_spec.specs.Order.{next}
 use Rattle.cgx_records.proofs.open_cell.Statement.{statement}
 use Rattle.cgx_records.proofs.open_cell.Tie as tie
 
 returns : tie.Need-returns
-unfolding next
 returns c = refl
 
 pub open-cell-spec : {M : Type 1} → statement M
