@@ -17,7 +17,7 @@ typedef struct {
 
 static void add(sheet *s, cgx_answer a) {
     if (!a.taken) {
-        fprintf(stderr, "refused %u behind offset %zu\n", (unsigned)a.number, a.place.at);
+        fprintf(stderr, "refused %u after offset %zu\n", (unsigned)a.number, a.place.at);
         exit(1);
     }
     s->place = a.place;

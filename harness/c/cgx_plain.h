@@ -16,7 +16,7 @@ enum { CGX_LIBRARY, CGX_STRUCT, CGX_CPRPTY, CGX_PROPERTY, CGX_LAYER, CGX_BOX,
 /* A refusal, or number 0; at is CGX_NONE where no place is named. */
 struct cgx_verdict { uint8_t number; size_t at; };
 
-/* Where a walk or a writer stands. */
+/* Where a walk or a writer is. */
 struct cgx_place {
     size_t at;
     size_t cell, layer;           /* offsets of the STRUCT and LAYER in force, or CGX_NONE */

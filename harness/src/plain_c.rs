@@ -23,7 +23,7 @@ impl From<Verdict> for Result<(), Refusal> {
     }
 }
 
-/// Where a walk or a writer stands.
+/// Where a walk or a writer is.
 #[repr(C)]
 #[derive(Clone, Copy)]
 pub struct Place {
@@ -54,7 +54,7 @@ impl Place {
 }
 
 /// Only the members that all kinds have are looked at from here; the fields
-/// behind them take up to this much.
+/// after them take up to this much.
 #[repr(C)]
 pub struct View {
     pub kind: u8,

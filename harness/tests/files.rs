@@ -341,7 +341,7 @@ fn library_clears_cell_and_layer() {
         ..Place::START
     };
     let Step::Record(view, next) = step(&file, made_up) else {
-        panic!("LIBRARY may stand here");
+        panic!("LIBRARY is allowed here");
     };
     assert_eq!((view.cell, view.layer), (None, None));
     assert_eq!((next.cell, next.layer), (None, None));

@@ -38,14 +38,14 @@ typedef struct {
     size_t len;
 } call;
 
-/* Where a call is made: behind these records. */
+/* Where a call is made: after these records. */
 typedef enum {
     AT_START,   /* the four bytes */
     IN_LIBRARY, /* LIBRARY */
     IN_CELL,    /* and STRUCT */
     IN_LAYER,   /* and LAYER */
     IN_RUN,     /* and PROPERTY */
-    ENDED       /* ENDLIB, behind LAYER */
+    ENDED       /* ENDLIB, after LAYER */
 } where;
 
 cgx_place place_in(where w);

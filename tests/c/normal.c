@@ -3,7 +3,7 @@
 
 #include <string.h>
 
-/* Makes the normal form into a buffer of so many bytes: the expected one, and the bytes behind it stay; or 14, and all
+/* Makes the normal form into a buffer of so many bytes: the expected one, and the bytes after it stay; or 14, and all
    stay. */
 static void make(const char *name, blob file, blob normal, size_t room) {
     blob out = {lend(room), room}, kept;

@@ -40,9 +40,9 @@ static const refused_file refused_files[] = {
     {"LAYER without a cell", CGX LIBRARY_M LAYER_1 ENDLIB, 6, 42},
     {"BOX without a layer", CELL BOX_1 ENDLIB, 6, 64},
     {"the layer ends with its cell", LAYERED STRUCT_A BOX_1 ENDLIB, 6, 94},
-    {"CPRPTY behind LAYER", LAYERED "000a 02 00 00000001 6100" ENDLIB, 6, 72},
-    {"ENDLIB behind PROPERTY", LAYERED "000a 03 00 00000001 6100" ENDLIB, 6, 82},
-    {"LAYER behind PROPERTY", LAYERED "000a 03 00 00000001 6100" LAYER_1 ENDLIB, 6, 82},
+    {"CPRPTY after LAYER", LAYERED "000a 02 00 00000001 6100" ENDLIB, 6, 72},
+    {"ENDLIB after PROPERTY", LAYERED "000a 03 00 00000001 6100" ENDLIB, 6, 82},
+    {"LAYER after PROPERTY", LAYERED "000a 03 00 00000001 6100" LAYER_1 ENDLIB, 6, 82},
     {"WIRE flags 3", LAYERED "0010 07 03 00000001 00000001 00000001" ENDLIB, 7, 72},
     {"SREF flags 16", CELL "000e 09 10 00000001 00000001 6100" ENDLIB, 7, 64},
     {"BOX without a box", LAYERED "0004 05 00" ENDLIB, 8, 72},
@@ -67,7 +67,7 @@ static const refused_file refused_files[] = {
         CELL "0026 09 08 00000001 00000001 00000000 00000001 00000000 00000000 00000000 00000000 6100" ENDLIB, 10, 64},
     {"rows -1",
         CELL "0026 09 08 00000001 00000001 00000001 ffffffff 00000000 00000000 00000000 00000000 6100" ENDLIB, 10, 64},
-    {"text behind a zero", STRUCT_NAMED("0018", "61000000"), 11, 42},
+    {"text after a zero", STRUCT_NAMED("0018", "61000000"), 11, 42},
     {"no zero at the end", STRUCT_NAMED("0018", "61620063"), 11, 42},
     {"POLY not closed",
         LAYERED "0024 06 00 00000000 00000000 00000001 00000000 00000001 00000001 00000000 00000001" ENDLIB, 12, 72},
@@ -274,7 +274,7 @@ static void fields(blob file, const cgx_view *v) {
         break;
     case 230:
         expect(f->sref.at.x == 1 && f->sref.at.y == 2 && is_text(file, f->sref.name, "b"), name, "SREF");
-        expect(!angle->present && !magnif->present && !array->present, name, "fields that do not stand");
+        expect(!angle->present && !magnif->present && !array->present, name, "fields that are absent");
         break;
     case 244:
         expect(angle->present && angle->exact && angle->value == 0.0, name, "angle");
@@ -292,7 +292,7 @@ static void fields(blob file, const cgx_view *v) {
     }
 }
 
-/* How many bytes of a view a step writes: all that stands behind them stays. */
+/* How many bytes of a view a step writes: all that comes after them stays. */
 static size_t written(const cgx_view *v) {
     const cgx_fields *f = &v->fields;
     const size_t fields = offsetof(cgx_view, fields);
@@ -407,19 +407,19 @@ static void forged(void) {
 
 static void made_up(void) {
     blob file = hex(SMALL);
-    cgx_list at_end = {80, 9}, behind = {96, 1}, far = {SIZE_MAX, SIZE_MAX};
+    cgx_list at_end = {80, 9}, past_end = {96, 1}, far = {SIZE_MAX, SIZE_MAX};
     cgx_text whole = {0, 96}, none = {96, 0}, long_one = {1, 96}, beyond = {97, 0}, most = {2, SIZE_MAX};
     expect(cgx_box_at(file.bytes, file.size, at_end, 0).found, "list", "a box up to the end");
     expect(!cgx_box_at(file.bytes, file.size, at_end, 1).found, "list", "a box past the end");
     expect(cgx_point_at(file.bytes, file.size, at_end, 1).found, "list", "a point up to the end");
     expect(!cgx_point_at(file.bytes, file.size, at_end, 2).found, "list", "a point past the end");
-    expect(!cgx_point_at(file.bytes, file.size, behind, 0).found, "list", "a point behind the end");
+    expect(!cgx_point_at(file.bytes, file.size, past_end, 0).found, "list", "a point past the end");
     expect(!cgx_box_at(file.bytes, file.size, far, SIZE_MAX - 1).found, "list", "a box far away");
     expect(!cgx_point_at(file.bytes, file.size, far, SIZE_MAX / 8).found, "list", "a point far away");
     expect(cgx_text_inside(file.bytes, file.size, whole), "text", "the whole file");
     expect(cgx_text_inside(file.bytes, file.size, none), "text", "nothing at the end");
     expect(!cgx_text_inside(file.bytes, file.size, long_one), "text", "one byte too long");
-    expect(!cgx_text_inside(file.bytes, file.size, beyond), "text", "nothing behind the end");
+    expect(!cgx_text_inside(file.bytes, file.size, beyond), "text", "nothing past the end");
     expect(!cgx_text_inside(file.bytes, file.size, most), "text", "a length that does not fit");
     expect(cgx_text_bytes(file.bytes, file.size, whole) == file.bytes, "text", "its bytes");
     expect(cgx_text_bytes(file.bytes, file.size, beyond) == NULL, "text", "no bytes");

@@ -1,4 +1,4 @@
-/* Runs the tests and counts them. The argument says where lent buffers stand: `after`, a page that cannot be touched
+/* Runs the tests and counts them. The argument says where lent buffers lie: `after`, a page that cannot be touched
    follows them; `before`, one precedes them; `heap`, for a run under sanitizers. */
 #define _DEFAULT_SOURCE
 #include "test.h"
@@ -21,7 +21,7 @@ void expect(bool good, const char *name, const char *what) {
 
 /* ---- buffers */
 
-static enum { HEAP, AFTER, BEFORE } stand = AFTER;
+static enum { HEAP, AFTER, BEFORE } guard = AFTER;
 enum { PAGE = 4096, FILL = 0xa5 };
 
 static void *or_stop(void *p) {
@@ -38,13 +38,13 @@ static size_t whole_pages(size_t n) {
 }
 
 static uint8_t *first_page(uint8_t *bytes, size_t n) {
-    return stand == AFTER ? bytes + n - whole_pages(n) : bytes;
+    return guard == AFTER ? bytes + n - whole_pages(n) : bytes;
 }
 
 uint8_t *lend(size_t n) {
     size_t inner = whole_pages(n);
     uint8_t *pages;
-    if (stand == HEAP) {
+    if (guard == HEAP) {
         uint8_t *bytes = or_stop(malloc(n));
         memset(bytes, FILL, n);
         return bytes;
@@ -53,14 +53,14 @@ uint8_t *lend(size_t n) {
     pages += PAGE;
     if (mprotect(pages, inner, PROT_READ | PROT_WRITE) != 0) or_stop(NULL);
     memset(pages, FILL, inner);
-    return stand == AFTER ? pages + inner - n : pages;
+    return guard == AFTER ? pages + inner - n : pages;
 }
 
 /* The rest of the pages must be as it was. */
 void give_back(uint8_t *bytes, size_t n) {
     size_t inner = whole_pages(n), i;
     uint8_t *pages;
-    if (stand == HEAP) {
+    if (guard == HEAP) {
         free(bytes);
         return;
     }
@@ -196,7 +196,7 @@ const char every_kind_normal[] = CGX
 
 int main(int argc, char **argv) {
     const char *where = argc > 1 ? argv[1] : "after";
-    stand = strcmp(where, "heap") == 0 ? HEAP : strcmp(where, "before") == 0 ? BEFORE : AFTER;
+    guard = strcmp(where, "heap") == 0 ? HEAP : strcmp(where, "before") == 0 ? BEFORE : AFTER;
     test_reading();
     test_normal_form();
     test_writing();

@@ -7,7 +7,7 @@
 /* Counts one test, and prints its name where it failed. */
 void expect(bool good, const char *name, const char *what);
 
-/* Lends n bytes, all 0xa5. Depending on how the tests are run a byte behind the last, or before the first, cannot be
+/* Lends n bytes, all 0xa5. Depending on how the tests are run a byte after the last, or before the first, cannot be
    touched without a fault; or the bytes are the heap's. */
 uint8_t *lend(size_t n);
 void give_back(uint8_t *bytes, size_t n);

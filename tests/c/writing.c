@@ -40,13 +40,13 @@ static const taken_call taken_calls[] = {
         "0026 00 ff 4110000000000000 0000000000000100 " DAY_DIGITS NEXT_DAY_DIGITS "0000"},
     {"STRUCT", IN_LIBRARY, {GOOD_STRUCT, .created = NEXT_DAY, TEXT_OF("ab")},
         "0018 01 00 " NEXT_DAY_DIGITS DAY_DIGITS "61620000"},
-    {"STRUCT behind LAYER", IN_LAYER, {GOOD_STRUCT, .created = NEXT_DAY, TEXT_OF("a")},
+    {"STRUCT after LAYER", IN_LAYER, {GOOD_STRUCT, .created = NEXT_DAY, TEXT_OF("a")},
         "0016 01 00 " NEXT_DAY_DIGITS DAY_DIGITS "6100"},
     {"STRUCT, lowest year, second 59", IN_LIBRARY, {GOOD_STRUCT, .created = {INT16_MIN, 12, 31, 23, 59, 59}},
         "0016 01 00 8000 0c 1f 17 3b 3b 00 " DAY_DIGITS "0000"},
     {"CPRPTY", IN_CELL, {.which = A_CPRPTY, .number = -1, TEXT_OF("cp")}, "000c 02 00 ffffffff 63700000"},
     {"PROPERTY", IN_CELL, {.which = A_PROPERTY, .number = INT32_MIN, TEXT_OF("")}, "000a 03 00 80000000 0000"},
-    {"PROPERTY behind PROPERTY", IN_RUN, {.which = A_PROPERTY, .number = 127, TEXT_OF("p")}, "000a 03 00 0000007f 7000"},
+    {"PROPERTY after PROPERTY", IN_RUN, {.which = A_PROPERTY, .number = 127, TEXT_OF("p")}, "000a 03 00 0000007f 7000"},
     {"LAYER", IN_CELL, {.which = A_LAYER, .layer = 5, .datatype = -3}, "0008 04 00 0005 fffd"},
     {"LAYER, lowest and highest", IN_LAYER, {.which = A_LAYER, .layer = INT16_MIN, .datatype = INT16_MAX},
         "0008 04 00 8000 7fff"},
@@ -93,7 +93,7 @@ static const taken_call taken_calls[] = {
         "0036 09 0f 00000003 00000004 c110000000000000 4110000000000000 00000001 00000001"
         " 00000064 00000000 00000000 000000c8 0000"},
     {"ENDLIB", IN_LIBRARY, {.which = AN_ENDLIB}, ENDLIB},
-    {"ENDLIB behind LAYER", IN_LAYER, {.which = AN_ENDLIB}, ENDLIB},
+    {"ENDLIB after LAYER", IN_LAYER, {.which = AN_ENDLIB}, ENDLIB},
 };
 
 static void take(const taken_call *t) {
@@ -115,7 +115,7 @@ typedef struct {
 
 static const refused_call refused_calls[] = {
     {"second LIBRARY", IN_LIBRARY, {GOOD_LIBRARY, GOOD_SCALES}, 6},
-    {"LIBRARY behind ENDLIB", ENDED, {GOOD_LIBRARY, GOOD_SCALES}, 6},
+    {"LIBRARY after ENDLIB", ENDED, {GOOD_LIBRARY, GOOD_SCALES}, 6},
     {"LIBRARY, second 60", AT_START,
         {.which = A_LIBRARY, GOOD_SCALES, .created = DAY, .modified = {2025, 2, 6, 14, 9, 60}}, 9},
     {"LIBRARY, date before scale", AT_START, {.which = A_LIBRARY, .created = DAY}, 9},
@@ -126,7 +126,7 @@ static const refused_call refused_calls[] = {
 
     {"STRUCT before LIBRARY", AT_START, A_STRUCT_ON(DAY), 6},
     {"STRUCT in a run", IN_RUN, A_STRUCT_ON(DAY), 6},
-    {"STRUCT behind ENDLIB", ENDED, A_STRUCT_ON(DAY), 6},
+    {"STRUCT after ENDLIB", ENDED, A_STRUCT_ON(DAY), 6},
     {"month 0", IN_LIBRARY, A_STRUCT_ON({2025, 0, 6, 14, 9, 45}), 9},
     {"month 13", IN_LIBRARY, A_STRUCT_ON({2025, 13, 6, 14, 9, 45}), 9},
     {"day 0", IN_LIBRARY, A_STRUCT_ON({2025, 2, 0, 14, 9, 45}), 9},
@@ -137,22 +137,22 @@ static const refused_call refused_calls[] = {
     {"STRUCT, a zero in its name", IN_LIBRARY, {GOOD_STRUCT, .created = DAY, TEXT_OF("\0")}, 11},
 
     {"CPRPTY without a cell", IN_LIBRARY, {.which = A_CPRPTY}, 6},
-    {"CPRPTY behind LAYER", IN_LAYER, {.which = A_CPRPTY}, 6},
-    {"CPRPTY behind ENDLIB", ENDED, {.which = A_CPRPTY}, 6},
+    {"CPRPTY after LAYER", IN_LAYER, {.which = A_CPRPTY}, 6},
+    {"CPRPTY after ENDLIB", ENDED, {.which = A_CPRPTY}, 6},
     {"CPRPTY, a zero in its value", IN_CELL, {.which = A_CPRPTY, TEXT_OF("a\0")}, 11},
     {"PROPERTY without a cell", IN_LIBRARY, {.which = A_PROPERTY}, 6},
-    {"PROPERTY behind ENDLIB", ENDED, {.which = A_PROPERTY}, 6},
+    {"PROPERTY after ENDLIB", ENDED, {.which = A_PROPERTY}, 6},
     {"PROPERTY, a zero in its value", IN_LAYER, {.which = A_PROPERTY, TEXT_OF("\0a")}, 11},
 
     {"LAYER without a cell", IN_LIBRARY, {.which = A_LAYER}, 6},
     {"LAYER in a run", IN_RUN, {.which = A_LAYER}, 6},
-    {"LAYER behind ENDLIB", ENDED, {.which = A_LAYER}, 6},
+    {"LAYER after ENDLIB", ENDED, {.which = A_LAYER}, 6},
     {"named LAYER without a cell", IN_LIBRARY, {.which = A_NAMED_LAYER}, 6},
-    {"named LAYER behind ENDLIB", ENDED, {.which = A_NAMED_LAYER}, 6},
+    {"named LAYER after ENDLIB", ENDED, {.which = A_NAMED_LAYER}, 6},
     {"named LAYER, a zero in its name", IN_LAYER, {.which = A_NAMED_LAYER, TEXT_OF("a\0b")}, 11},
 
     {"BOX without a layer", IN_CELL, {.which = A_BOX, LONGS_OF(one_box)}, 6},
-    {"BOX behind ENDLIB", ENDED, {.which = A_BOX, LONGS_OF(one_box)}, 6},
+    {"BOX after ENDLIB", ENDED, {.which = A_BOX, LONGS_OF(one_box)}, 6},
     {"BOX, place before list", IN_CELL, {.which = A_BOX}, 6},
     {"no box", IN_LAYER, {.which = A_BOX}, 8},
     {"part of a box", IN_LAYER, {.which = A_BOX, LONGS_OF(part_of_a_box)}, 8},
@@ -161,7 +161,7 @@ static const refused_call refused_calls[] = {
     {"box reversed up", IN_LAYER, {.which = A_BOX, LONGS_OF(reversed_up)}, 10},
 
     {"POLY without a layer", IN_CELL, {.which = A_POLY, LONGS_OF(triangle)}, 6},
-    {"POLY behind ENDLIB", ENDED, {.which = A_POLY, LONGS_OF(triangle)}, 6},
+    {"POLY after ENDLIB", ENDED, {.which = A_POLY, LONGS_OF(triangle)}, 6},
     {"POLY without a point", IN_LAYER, {.which = A_POLY}, 8},
     {"POLY of three points", IN_LAYER, {.which = A_POLY, LONGS_OF(three_points)}, 8},
     {"POLY with half a point", IN_LAYER, {.which = A_POLY, LONGS_OF(half_a_point)}, 8},
@@ -169,11 +169,11 @@ static const refused_call refused_calls[] = {
     {"POLY open in y", IN_LAYER, {.which = A_POLY, LONGS_OF(open_in_y)}, 12},
 
     {"WIRE without a layer", IN_CELL, {.which = A_WIRE, LONGS_OF(line)}, 6},
-    {"WIRE behind ENDLIB", ENDED, {.which = A_WIRE, LONGS_OF(line)}, 6},
+    {"WIRE after ENDLIB", ENDED, {.which = A_WIRE, LONGS_OF(line)}, 6},
     {"WIRE without a point", IN_LAYER, {.which = A_WIRE}, 8},
     {"WIRE with half a point", IN_LAYER, {.which = A_WIRE, .longs = line, .count = 3}, 8},
     {"styled WIRE without a layer", IN_CELL, {.which = A_STYLED_WIRE, .flags = 3, LONGS_OF(line)}, 6},
-    {"styled WIRE behind ENDLIB", ENDED, {.which = A_STYLED_WIRE, LONGS_OF(line)}, 6},
+    {"styled WIRE after ENDLIB", ENDED, {.which = A_STYLED_WIRE, LONGS_OF(line)}, 6},
     {"end style 3", IN_LAYER, {.which = A_STYLED_WIRE, .flags = 3, LONGS_OF(line)}, 7},
     {"end style 255", IN_LAYER, {.which = A_STYLED_WIRE, .flags = 255, LONGS_OF(line)}, 7},
     {"end style before list", IN_LAYER, {.which = A_STYLED_WIRE, .flags = 3}, 7},
@@ -181,11 +181,11 @@ static const refused_call refused_calls[] = {
     {"styled WIRE with half a point", IN_LAYER, {.which = A_STYLED_WIRE, .flags = 1, .longs = line, .count = 1}, 8},
 
     {"TEXT without a layer", IN_CELL, {.which = A_TEXT, TEXT_OF("a")}, 6},
-    {"TEXT behind ENDLIB", ENDED, {.which = A_TEXT, TEXT_OF("a")}, 6},
+    {"TEXT after ENDLIB", ENDED, {.which = A_TEXT, TEXT_OF("a")}, 6},
     {"TEXT, a zero in its label", IN_LAYER, {.which = A_TEXT, TEXT_OF("a\0")}, 11},
 
     {"SREF without a cell", IN_LIBRARY, {.which = AN_SREF}, 6},
-    {"SREF behind ENDLIB", ENDED, {.which = AN_SREF}, 6},
+    {"SREF after ENDLIB", ENDED, {.which = AN_SREF}, 6},
     {"SREF flags 16", IN_CELL, {.which = AN_SREF, .flags = 16}, 7},
     {"SREF flags 255", IN_CELL, {.which = AN_SREF, .flags = 255, TEXT_OF("\0")}, 7},
     {"magnif 0", IN_CELL, {.which = AN_SREF, .flags = CGX_SREF_MAGNIF, .second = {{0x41}}}, 10},

@@ -25,7 +25,7 @@ const READ_AND_WRITE: i32 = 1 | 2;
 /// MAP_PRIVATE and MAP_ANONYMOUS of Linux.
 const FRESH_PAGES: i32 = 0x02 | 0x20;
 
-/// Room for inputs, with a page behind it that may not be touched.
+/// Room for inputs, with a page after it that may not be touched.
 pub struct Fence {
     room: usize,
     start: *mut u8,

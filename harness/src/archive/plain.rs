@@ -1,5 +1,5 @@
 //! The structs that pass to and from the archive, laid out as in C, and what
-//! each stands for in the words of the reference.
+//! each means in the words of the reference.
 
 use crate::reference::{
     Answer, Array, DataType, Date, Fields, Kind, LayerNo, List, Place, Real, Rect, Refusal, Run,
@@ -433,7 +433,7 @@ const PLACE_WORDS: usize = size_of::<PlainPlace>() / 8;
 const VIEW_WORDS: usize = size_of::<PlainView>() / 8;
 const FIELD_WORDS: usize = size_of::<PlainFields>() / 8;
 
-/// What stands in lent memory before a step, in the padding of a place too.
+/// What lent memory holds before a step, in the padding of a place too.
 const FILL: u64 = 0xa5a5_a5a5_a5a5_a5a5;
 
 /// A place and a view as words, with margins, to see what a step leaves of them.
@@ -444,7 +444,7 @@ pub struct Lent {
     place: [u64; PLACE_WORDS],
     between: u64,
     view: [u64; VIEW_WORDS],
-    behind: u64,
+    after: u64,
 }
 
 /// A word whose low bytes are these bools, and whose others say nothing.
@@ -473,7 +473,7 @@ impl Lent {
             ],
             between: FILL,
             view: [FILL; VIEW_WORDS],
-            behind: FILL,
+            after: FILL,
         }
     }
 
@@ -516,7 +516,7 @@ impl Lent {
         let named = matches!(view.fields, Fields::Layer { name: Some(_), .. });
         let written = VIEW_WORDS - FIELD_WORDS + PlainFields::words(view.kind, named);
         assert!(
-            self.before == FILL && self.between == FILL && self.behind == FILL,
+            self.before == FILL && self.between == FILL && self.after == FILL,
             "a step wrote beside what it was lent"
         );
         assert!(
@@ -777,7 +777,7 @@ mod tests {
     #[should_panic(expected = "beside what it was lent")]
     fn a_record_that_writes_beside() {
         let mut lent = endlib();
-        lent.behind = 0;
+        lent.after = 0;
         lent.answered(&Lent::new(Place::START), answer(0));
     }
 }

@@ -20,7 +20,7 @@ impl Lent {
         &mut self.bytes[MARGIN..end]
     }
 
-    /// The first `room` bytes of the part, with what stands there now.
+    /// The first `room` bytes of the part, with what they hold then.
     pub fn first(&self, room: usize) -> Lent {
         let mut bytes = self.bytes[..MARGIN + room].to_vec();
         bytes.extend((0..MARGIN).map(pattern));

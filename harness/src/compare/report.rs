@@ -49,7 +49,7 @@ impl Report {
     }
 
     /// Runs one case. `origin` says how to make it again, `input` is its bytes,
-    /// which `compare` is handed with nothing readable behind them.
+    /// which `compare` is handed with nothing readable after them.
     pub fn case(
         &mut self,
         kind: &'static str,

@@ -7,7 +7,7 @@ use crate::generate::{forged_places, passing_place, BadCall, Call, Rng};
 use crate::reference::{self, Answer, Place};
 use crate::{archive, drive};
 
-/// The buffers of the two writers, and where both stand.
+/// The buffers of the two writers, and where both are.
 struct Desk {
     reference: Lent,
     archive: Lent,
@@ -40,7 +40,7 @@ impl Desk {
         self.same_bytes(case, "start of the writer");
     }
 
-    /// Makes a call from where both stand, and goes on to the place handed back.
+    /// Makes a call from where both are, and goes on to the place handed back.
     fn make(&mut self, case: &mut Case, call: &Call) -> Answer {
         let given = self.place;
         let answer = drive::make(self.reference.part(), given, call);

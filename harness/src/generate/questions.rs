@@ -4,7 +4,7 @@ use super::drawing::*;
 use super::rng::Rng;
 use super::valid::random_record;
 
-/// Bytes, an offset in them, and whether a good LAYER stands there.
+/// Bytes, an offset in them, and whether there is a good LAYER.
 #[derive(Clone, Debug)]
 pub struct LayerQuestion {
     pub what: &'static str,

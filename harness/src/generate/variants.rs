@@ -45,7 +45,7 @@ fn respell(rng: &mut Rng, record: &mut Loose) {
     }
 }
 
-/// Where the reals of a record stand in its body.
+/// Where the reals of a record are in its body.
 pub fn real_offsets(record: &Loose) -> Vec<usize> {
     match (record.type_byte, record.flags & 3) {
         (LIBRARY, _) => vec![0, 8],

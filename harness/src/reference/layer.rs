@@ -21,7 +21,7 @@ pub struct Shown {
 }
 
 /// The name to show for the LAYER at `offset`: its own, or the whole
-/// substitute where it has none, or an empty one where no good LAYER stands.
+/// substitute where it has none, or an empty one where there is no good LAYER.
 pub fn layer_name(file: &[u8], offset: usize, substitute: &[u8]) -> Shown {
     let of_substitute = |length| Shown {
         source: Source::Substitute,
@@ -39,7 +39,7 @@ pub fn layer_name(file: &[u8], offset: usize, substitute: &[u8]) -> Shown {
     }
 }
 
-/// Whether a good LAYER stands at `offset`; nothing before it is read.
+/// Whether there is a good LAYER at `offset`; nothing before it is read.
 pub fn good_layer(file: &[u8], offset: usize) -> Result<(), Refusal> {
     name_field(file, offset)
         .map(|_| ())

@@ -38,8 +38,8 @@ fn write_normal(record: &Record, out: &mut [u8]) {
     }
 }
 
-/// Where the reals of a record begin and how many there are; they always
-/// stand one after the other.
+/// Where the reals of a record begin and how many there are; they are always
+/// one after the other.
 fn reals_of(record: &Record) -> (usize, usize) {
     match record.kind {
         Kind::Library => (limits::RECORD_HEADER, 2),

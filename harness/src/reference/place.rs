@@ -12,7 +12,7 @@ pub struct Run {
     pub count: usize,
 }
 
-/// Where a walk or a writer stands. Anyone may make one up.
+/// Where a walk or a writer is. Anyone may make one up.
 #[derive(Clone, Copy, Debug, PartialEq, Eq)]
 pub struct Place {
     pub offset: usize,
@@ -25,7 +25,7 @@ pub struct Place {
     pub layer: Option<usize>,
     /// The property run so far.
     pub run: Option<Run>,
-    /// Only CPRPTY records stand between here and the last STRUCT.
+    /// Only CPRPTY records are between here and the last STRUCT.
     pub after_struct: bool,
 }
 
@@ -55,7 +55,7 @@ impl Place {
                 .is_some_and(|run| above(run.first) || above(run.count))
     }
 
-    /// Whether a record of this kind may stand here (refusal 6).
+    /// Whether a record of this kind is allowed here (refusal 6).
     ///
     /// The rules are read one by one and all must hold, so that a made-up
     /// context is taken at its word.
@@ -75,7 +75,7 @@ impl Place {
         !self.ended && first_and_once && run_goes_on && context
     }
 
-    /// Whether an unknown record may stand here: not before LIBRARY.
+    /// Whether an unknown record is allowed here: not before LIBRARY.
     #[inline]
     pub fn allows_unknown(&self) -> bool {
         self.library_seen
@@ -106,7 +106,7 @@ impl Place {
     }
 }
 
-/// The run with one more PROPERTY, which stands at `at`.
+/// The run with one more PROPERTY, the one at `at`.
 #[inline]
 fn longer(run: Option<Run>, at: usize) -> Run {
     match run {

@@ -7,7 +7,7 @@ use super::place::Place;
 use super::refusal::{number, Refusal};
 use super::text::text_of;
 
-/// A known record that stands in a file.
+/// A known record of a file.
 #[derive(Clone, Copy)]
 pub struct Record<'a> {
     pub at: usize,
@@ -147,7 +147,7 @@ fn check_string(field: &[u8]) -> Result<(), u8> {
     require(text_of(field).is_some(), number::STRING)
 }
 
-/// Two dates stand one after the other, here and in STRUCT.
+/// Two dates, one after the other, here and in STRUCT.
 #[inline]
 fn check_dates(dates: &[u8]) -> Result<(), u8> {
     let good = |at| Date::is_stored_well(part(dates, at));
@@ -235,7 +235,7 @@ fn check_sref(flags: u8, body: &[u8]) -> Result<(), u8> {
     check_string(name)
 }
 
-/// Where the fields after x and y stand in an SREF body: its flags decide.
+/// Where the fields after x and y are in an SREF body: its flags decide.
 pub struct SrefParts {
     pub angle: Option<usize>,
     pub magnif: Option<usize>,

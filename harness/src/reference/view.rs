@@ -97,7 +97,7 @@ pub enum Fields {
 #[derive(Clone, Copy, Debug, PartialEq)]
 pub struct View {
     pub kind: Kind,
-    /// The flags byte as it stands in the file.
+    /// The flags byte as the file has it.
     pub flags: u8,
     /// Offset of the record.
     pub offset: usize,

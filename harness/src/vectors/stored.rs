@@ -13,7 +13,7 @@ pub struct Case {
     pub bytes: Vec<u8>,
     /// The answers, a line each.
     pub says: Vec<String>,
-    /// The lines of `from` and `bytes` as they stand, so that they stay so.
+    /// The lines of `from` and `bytes` as they are, so that they stay so.
     given: Vec<String>,
 }
 

@@ -1,5 +1,5 @@
 /* Asks the archive all that can be asked of the files on standard input, which are written as in tests/vectors, and compares what
-   it answers with the lines that stand there. It names each case that differs, with the first line that does; its last line is
+   it answers with the lines that are there. It names each case that differs, with the first line that does; its last line is
    `N passed, M failed`. With the argument --digests it compares nothing, and prints a name and a digest of all answers for each
    case. It needs no more of the C library than standard input and output. */
 #include "cgx.h"
@@ -96,7 +96,7 @@ static void put(const char *format, ...) {
     if (n > 0) length += (size_t)n < sizeof line - length ? (size_t)n : sizeof line - length - 1;
 }
 
-/* Compares the line with the one that stands there. */
+/* Compares the line with the one that is there. */
 static void compare(void) {
     const char *stored = after(next, "  ");
     if (digests || differs) return;

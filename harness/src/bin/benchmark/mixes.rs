@@ -85,7 +85,7 @@ fn small(rng: &mut Rng) -> Loose {
     }
 }
 
-/// Records of all sizes that may stand in a cell, unknown ones among them.
+/// Records of all sizes that are allowed in a cell, unknown ones among them.
 fn mixed(rng: &mut Rng) -> Loose {
     match rng.below(8) {
         0 => {
