@@ -140,7 +140,7 @@ module _ (fl : ℕ) (b : List ℕ) (y : Body b) {m g n : ℕ} (em : m ≡ cond (
       (keeps-11 b (angle fl) (magnif fl) (array fl) ∙ sym (e3 ∙ ap (λ (k : ℕ). goodString (take (length b - k) (drop k b))) en'))
       (keeps-12 b (angle fl) (magnif fl) (array fl))
 
--- the offsets are small, and the name stands after all the others
+-- the offsets are small, and the name comes after all the others
 pub record Places (m r : Bool) (x g n : ℕ) : Type 0 where
   pub second : x ≤ 16
   pub third : g ≤ 24
@@ -166,7 +166,7 @@ pub after-le : (v : Bool) (at w : ℕ) {x : ℕ} → x ≡ cond v (at + w) at �
 after-le true at w e = omega arith
 after-le false at w e = omega arith
 
--- a field that stands
+-- a field that is present
 module _ (b : List ℕ) (at : ℕ) {s : Bool} (t : s ≡ true) where
   pub magnif-yes : {r : Bool} → r ≡ positiveReal ((take (at + 8 - at) (drop at b))) → r ≡ (not s || positiveReal ((take 8 (drop at b))))
   magnif-yes e =

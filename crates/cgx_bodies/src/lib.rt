@@ -135,7 +135,7 @@ pub fn wire_fault(b: &[u8], fl: u8) -> u8
     requires { ⌜ Body (now b) ⌝ }
     ensures { λ r. ⌜ r ≡ bodyFault KWire fl (now (b .entry)) ⌝ }
 {
-    // The width stands before the pairs.
+    // The width comes before the pairs.
     if b.len() < Wire::WIDTH_SIZE {
         return 8;
     }
@@ -215,7 +215,7 @@ fn first_broken(dates: bool, numbers: bool, texts: bool, ring: bool) -> u8
     0
 }
 
-// Where the next field of an SREF begins: w bytes on, if this one stands.
+// Where the next field of an SREF begins: w bytes on, if this one is present.
 fn after(stands: bool, at: usize, w: usize) -> usize
     requires { ⌜ (at ≤ 100) × (w ≤ 100) ⌝ }
     ensures { λ r. ⌜ r ≡ cond stands (at + w) at ⌝ }

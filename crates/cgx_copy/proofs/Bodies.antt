@@ -65,7 +65,7 @@ length-reals r b =
     let m = realIf (r .second) (drop (r .skip + realWidth (r .first)) b) in
     length-append n m ∙ ap₂ _+_ (length-realIf (r .first) _) (length-realIf (r .second) _)
 
--- what stands before the reals, the normal reals, and what stands behind
+-- what is before the reals, the normal reals, and what is after them
 stored : (r : Reals) (b : List ℕ) → realsEnd r ≤ length b
     → put b (r .skip) (normalReals r b) ≡ take (r .skip) b ++ (realIf (r .first) (drop (r .skip) b) ++ (realIf (r .second) (drop (r .skip + realWidth (r .first)) b) ++ drop (realsEnd r) b))
 unfolding normalReals
@@ -92,7 +92,7 @@ placing-plain : (z : Bool) → T (every plain (placing z))
 placing-plain true = tt
 placing-plain false = tt
 
--- SREF's fields behind x and y
+-- SREF's fields after x and y
 turned : (x y z : Bool) (c : List ℕ)
     → normalBytes (pieces (onlyIf x real ∷ onlyIf y positive ∷ placing z) c) ≡ realIf x c ++ (realIf y (drop (realWidth x) c) ++ drop (realWidth y) (drop (realWidth x) c))
 unfolding normalBytes pieces normal width realIf realWidth
@@ -163,7 +163,7 @@ pub real-off : {s : Bool} (b : List ℕ) → s ≡ false → realIf s b ≡ []
 unfolding realIf
 real-off b e = rw e
 
--- the second real is stored right behind the first
+-- the second real is stored right after the first
 pub two-stored : (r : Reals) (b out x y : List ℕ) (to w : ℕ) → w ≡ realWidth (r .first)
     → x ≡ put out (to + r .skip) (realIf (r .first) (drop (r .skip) b))
     → y ≡ put x (to + (r .skip + w)) (realIf (r .second) (drop (r .skip + w) b))

@@ -66,7 +66,7 @@ module _ (k : Kind) (f : List ℕ) (at n : ℕ) (out : List ℕ) (to : ℕ) (h :
       let r = reals-fit k (getD f (at + 3) 0) (length (recAt f at n .body)) t in
       omega arith
 
-  -- the copy is as long as the record, so that the next one goes right behind it
+  -- the copy is as long as the record, so that the next one goes right after it
   pub copy-length : length (bytesOf (normalOf k (recAt f at n))) ≡ n
   unfolding recAt
   copy-length =

@@ -1,4 +1,4 @@
--- One record in normal form: where its reals stand, what is stored over them, and what a copy asks for. Definitions only.
+-- One record in normal form: where its reals are, what is stored over them, and what a copy asks for. Definitions only.
 use mathlib.Core.Path.{_≡_}
 use mathlib.Core.Bool.{Bool, true, false, cond}
 use mathlib.Core.List.{List, [], _++_}
@@ -18,7 +18,7 @@ use Rattle.cgx_copy.specs.declared.Reals.{Reals}
 abbrev pub noReals : Reals
 noReals = record { skip = 0; first = false; second = false }
 
--- LIBRARY begins with munit and uunit; SREF has angle and magnif behind x and y, each where its flag stands.
+-- LIBRARY begins with munit and uunit; SREF has angle and magnif after x and y, each where its flag is set.
 unfoldable pub realsIn : Kind → ℕ → Reals
 realsIn Library fl = record { skip = 0; first = true; second = true }
 realsIn Struct fl = noReals
@@ -32,14 +32,14 @@ realsIn Text fl = noReals
 realsIn Sref fl = record { skip = 8; first = angle fl; second = magnif fl }
 realsIn Endlib fl = noReals
 
--- The bytes that a real takes, where it stands and where not.
+-- The bytes that a real takes, where it is present and where not.
 unfoldable pub realWidth : Bool → ℕ
 realWidth stands = cond stands 8 0
 
 abbrev pub realsEnd : Reals → ℕ
 realsEnd r = r .skip + realWidth (r .first) + realWidth (r .second)
 
--- The normal real equal to that at the beginning of the bytes, where it stands.
+-- The normal real equal to that at the beginning of the bytes, where it is present.
 unfoldable pub realIf : Bool → List ℕ → List ℕ
 realIf true b = normalReal (take 8 b)
 realIf false b = []

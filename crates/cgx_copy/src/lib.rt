@@ -1,4 +1,4 @@
-// One record copied in normal form: its bytes as they stand, then the flags that are meant and the normal reals stored
+// One record copied in normal form: its bytes as they are, then the flags that are meant and the normal reals stored
 // over them. A large record is one vector loop.
 ghost use mathlib.Core.Path.{_≡_};
 ghost use Prim.Native.Nat.{_+_, _≤_};
@@ -70,14 +70,14 @@ fn copy_flagged(whole: &[u8], flags: u8, out: &mut [u8], to: usize)
 
 // ---- reals
 
-// The reals of a body: at most two, one after another behind the first `skip` bytes.
+// The reals of a body: at most two, one after another from byte `skip` on.
 struct Reals {
     skip: usize,
     first: bool,
     second: bool,
 }
 
-// LIBRARY's munit and uunit; SREF's angle and magnif, each where its flag stands.
+// LIBRARY's munit and uunit; SREF's angle and magnif, each where its flag is set.
 fn reals_in(k: Kind, fl: u8) -> Reals
     ensures { λ r. ⌜ r ≡ realsIn k fl ⌝ }
 {
@@ -100,7 +100,7 @@ fn reals_in(k: Kind, fl: u8) -> Reals
     }
 }
 
-// Stores the normal reals of a body where they stand in its copy, which begins at `to`.
+// Stores the normal reals of a body where they are in its copy, which begins at `to`.
 fn put_reals(reals: Reals, body: &[u8], out: &mut [u8], to: usize)
     requires { ⌜ (realsEnd reals ≤ length (now body)) × (to + realsEnd reals ≤ length (now out)) ⌝ }
     ensures { λ _. ⌜ now (out .exit) ≡ put (now (out .entry)) (to + reals .skip) (normalReals reals (now (body .entry))) ⌝ }

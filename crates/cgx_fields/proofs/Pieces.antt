@@ -1,4 +1,4 @@
--- Bytes with no zero, by pieces: one right behind another, or two that overlap; and the loop over pieces. Assumes nothing.
+-- Bytes with no zero, by pieces: one right after another, or two that overlap; and the loop over pieces. Assumes nothing.
 use mathlib.Core.Path.{_≡_, refl, sym, ap, ap₂, _∙_}
 use mathlib.Core.Bool.{Bool, true, false, not, _&&_}
 use mathlib.Core.List.{List, [], _∷_, _++_}
@@ -39,7 +39,7 @@ cover b to from h =
     ∙ ap (λ (v : Bool). noZero (take from b) && v) (halves d n)
     ∙ halves b from
 
--- ---- the loop: no zero stands before at
+-- ---- the loop: there is no zero before at
 
 module _ (b : List ℕ) (at : ℕ) (none : noZero (take at b) ≡ true) where
   pub piece-on : (n : ℕ) {r : Bool} → r ≡ noZero (take (at + n - at) (drop at b)) → noZero (take (at + n) b) ≡ r

@@ -33,7 +33,7 @@ last-two (suc x) zero = ap (λ (v : Bool). v && true) (eqb-self (suc x))
 last-two (suc x) (suc y) =
     ap (λ (v : Bool). v && (eqb (suc y) (suc y) && false)) (eqb-self (suc x)) ∙ and-false (eqb (suc y) (suc y)) ∙ sym (ne-eqb (suc y) 0 (λ e. omega arith))
 
--- two with more behind them
+-- two with more after them
 two-more : (x y z : ℕ) (t : List ℕ) → goodString (x ∷ y ∷ z ∷ t) ≡ (not (eqb x 0) && (not (eqb y 0) && goodString (z ∷ t)))
 unfolding goodString same textOf padded
 two-more zero y z t = and-false (eqb y 0)

@@ -1,4 +1,4 @@
--- Whether a good LAYER stands at an offset, test by test; its name; and what is shown for it. Assumes nothing.
+-- Whether there is a good LAYER at an offset, test by test; its name; and what is shown for it. Assumes nothing.
 use mathlib.Core.Path.{_≡_, refl, sym, ap, _∙_, subst}
 use mathlib.Core.Bool.{Bool, true, false, _&&_, cond}
 use mathlib.Core.List.{List, [], _∷_}

@@ -38,7 +38,7 @@ layerAnswer f at = cond (goodLayer f at) 0 16
 
 -- ---- the name
 
--- The text of the name, behind the layer's number and data type: none where the name is absent.
+-- The text of the name, after the layer's number and data type: none where the name is absent.
 unfoldable pub nameIn : Cut → List ℕ
 nameIn (bad n) = []
 nameIn (found r bs) = textOf (drop 4 (r .body))
@@ -57,7 +57,7 @@ unfoldable pub shownText : List ℕ → List ℕ → Shown → List ℕ
 shownText f s (OfFile at len) = take len (drop at f)
 shownText f s (OfSubstitute len) = take len s
 
--- Where it stands: a pointer is a block and an offset in it.
+-- Where it is: a pointer is a block and an offset in it.
 unfoldable pub shownPtr : ℕ × ℕ → ℕ × ℕ → Shown → ℕ × ℕ
 shownPtr f s (OfFile at len) = (f .0, f .1 + at)
 shownPtr f s (OfSubstitute len) = s

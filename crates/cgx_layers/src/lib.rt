@@ -20,7 +20,7 @@ pub enum Shown {
     OfSubstitute { len: usize },
 }
 
-// Whether a good LAYER stands at an offset: 0, or 16 where none does.
+// Whether there is a good LAYER at an offset: 0, or 16 where none does.
 pub fn layer_at(file: &[u8], at: usize) -> u8
     ensures { λ r. ⌜ r ≡ layerAnswer (now (file .entry)) at ⌝ }
 {

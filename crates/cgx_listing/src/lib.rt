@@ -58,7 +58,7 @@ fn put_records(file: &[u8], out: &mut [u8]) -> usize
     }
 }
 
-// ---- lines: each function stores from an offset on, and answers the offset behind
+// ---- lines: each function stores from an offset on, and answers the offset after it
 
 // The line of a record; nothing where its type is unknown.
 fn put_record(out: &mut [u8], at: usize, offset: usize, t: RecordType) -> usize

@@ -52,7 +52,7 @@ module _ (n u : ℕ) (r : Repeat) (i : ℕ) where
   unfolding stands
   stands-here c h = T→true (and-both (ltb i (r .count)) (leb (placeOf u r i + u) n) (lt→ltb i (r .count) c) (le→leb (placeOf u r i + u) n h))
 
--- ---- what stands, and what does not
+-- ---- what is inside, and what is not
 
 module _ (f : List ℕ) (r : Repeat) (i : ℕ) where
   pub box-none : stands (length f) 16 r i ≡ false → noBox ≡ boxOf f r i

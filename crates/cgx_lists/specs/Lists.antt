@@ -47,6 +47,6 @@ within n s = leb (s .at + s .len) n
 unfoldable pub spanBytes : List ℕ → Span → List ℕ
 spanBytes f s = cond (within (length f) s) (take (s .len) (drop (s .at) f)) []
 
--- Where they stand, of a file of n bytes with this pointer: a pointer is a block and an offset in it.
+-- Where they are, of a file of n bytes with this pointer: a pointer is a block and an offset in it.
 unfoldable pub spanPtr : ℕ × ℕ → ℕ → Span → ℕ × ℕ
 spanPtr p n s = cond (within n s) (p .0, p .1 + s .at) p

@@ -86,7 +86,7 @@ pub fn text_bytes<'a>(f: &'a [u8], s: Span) -> &'a [u8]
     &f[at..end]
 }
 
-// Whether the i-th thing of `unit` bytes stands in the list and inside n bytes; no sum or product is made that might not fit.
+// Whether the i-th thing of `unit` bytes is in the list and inside n bytes; no sum or product is made that might not fit.
 fn stands_at(n: usize, unit: usize, list: Repeat, i: usize) -> bool
     requires { ⌜ 0 < unit ⌝ }
     ensures { λ r. ⌜ r ≡ stands n unit list i ⌝ }

@@ -19,7 +19,7 @@ fits-start = refl
 
 -- ---- the table
 
--- where a record may stand, the state after it
+-- where a record is allowed, the state after it
 abbrev onward : Option State → Option Kind → Option State
 onward none o = none
 onward (some s) o = cond (may s o) (some (seen (then s o))) none

@@ -22,7 +22,7 @@ pub enum Phase {
     LayerRun,
     // ENDLIB has been read.
     Ended,
-    // A record stands where it may not.
+    // A record is where it is not allowed.
     Refused,
 }
 
@@ -59,7 +59,7 @@ pub fn stands(p: Phase) -> bool
     }
 }
 
-// The phase after a record of any type; Refused where it may not stand.
+// The phase after a record of any type; Refused where it is not allowed.
 pub fn phase_after(p: Phase, t: RecordType) -> Phase
     ensures { λ r. ⌜ r ≡ afterPhase p (kindIn t) ⌝ }
 {
@@ -87,7 +87,7 @@ fn after_known(p: Phase, k: Kind) -> Phase
     }
 }
 
-// An unknown record changes nothing, but may not stand before LIBRARY.
+// An unknown record changes nothing, but is not allowed before LIBRARY.
 fn after_unknown(p: Phase) -> Phase
     ensures { λ r. ⌜ r ≡ afterUnknown p ⌝ }
 {

@@ -1,4 +1,4 @@
--- A text and the zero bytes behind it: one after an odd length, two after an even one. Assumes nothing.
+-- A text and the zero bytes after it: one after an odd length, two after an even one. Assumes nothing.
 use mathlib.Core.Path.{_≡_, refl, sym, ap, _∙_}
 use mathlib.Core.List.{List, [], _∷_, _++_}
 use Prim.Native.Nat.{ℕ, suc, _+_, _*_, _/_, _%_}

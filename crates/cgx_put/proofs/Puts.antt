@@ -27,7 +27,7 @@ pub put-length : (l : List ℕ) (at : ℕ) (vs : List ℕ) → length (put l at 
 unfolding put
 put-length l at vs = length-sets l at vs
 
--- what stood before, the bytes, and what stands after them
+-- what was before, the bytes, and what is after them
 pub put-is : (l : List ℕ) (at : ℕ) (vs : List ℕ) → at + length vs ≤ length l → put l at vs ≡ take at l ++ vs ++ drop (at + length vs) l
 unfolding put
 put-is l at vs h = sets-eq vs l at h
@@ -83,7 +83,7 @@ put-over x y z ws i e q =
     ap (drop (i + length ws)) (sym (append-assoc x y z)) ∙ drop-at (x ++ y) z (i + length ws) (omega (arith, length-append x y)) in
     put-is (x ++ (y ++ z)) i ws n ∙ rw (take-at x (y ++ z) i e, a) (append-assoc x ws z)
 
--- a store behind x
+-- a store after x
 put-suc : (l : List ℕ) (v i : ℕ) (ws : List ℕ) → put (v ∷ l) (suc i) ws ≡ v ∷ put l i ws
 unfolding put
 put-suc l v i [] = refl

@@ -85,7 +85,7 @@ pub fn put_bytes(out: &mut [u8], at: usize, src: &[u8])
     put_word(out, at + last, word_of(&src[last..]));
 }
 
-// No branch stands in the loop, so that it is compiled to a vector loop.
+// There is no branch in the loop, so that it is compiled to a vector loop.
 fn put_each(out: &mut [u8], at: usize, src: &[u8])
     requires { ⌜ at + length (now src) ≤ length (now out) ⌝ }
     ensures { λ _. ⌜ now (out .exit) ≡ put (now (out .entry)) at (now (src .entry)) ⌝ }

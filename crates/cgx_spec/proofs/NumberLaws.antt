@@ -43,7 +43,7 @@ after-digits (suc (suc n)) a x =
     step : (a d p r : ℕ) → (a * 256 + d) * p + r ≡ a * (256 * p) + (d * p + r)
     step a d p r = simp (add-mul, mul-assoc, add-assoc)
 
--- the n low bytes of x are read back as x without what stands above them
+-- the n low bytes of x are read back as x without the bits above them
 pub number-digits : (n x : ℕ) → number (digits n x) ≡ x % 256 ^ n
 number-digits n x = after-digits n 0 x ∙ ap (λ (k : ℕ). k + x % 256 ^ n) (zero-mul (256 ^ n)) ∙ zero-add (x % 256 ^ n)
 
@@ -93,7 +93,7 @@ twos-high h n l k =
     ap (λ (b : Bool). cond b (pos n) (subℕ n (2 * h))) (le-ltb n h l)
     ∙ ap (λ (b : Bool). cond b (negsuc (2 * h - suc n)) (pos (n - 2 * h))) (lt-ltb n (2 * h) k)
 
--- the number that stands for what n stands for is n
+-- the number that is written for what n means is n
 pub untwos-twos : (h n : ℕ) → n < 2 * h → untwos h (twos h n) ≡ n
 untwos-twos h n k = go (ltb n h) refl
   where

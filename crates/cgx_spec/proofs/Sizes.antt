@@ -173,7 +173,7 @@ with-string fs a p z n e l =
     (λ t. le→leb (a + 2 + 4) (4 + n) (omega (arith, leb→le (a + 2) n t)))
     (λ t. le→leb (a + 2) n (omega (arith, leb→le (a + 2 + 4) (4 + n) t)))
 
--- from lo to hi units behind `base` bytes
+-- from lo to hi units after `base` bytes
 units-repeated : (u : ℕ) → 0 < u → (base lo hi n : ℕ) → units u lo hi n ≡ repeated base u lo hi (base + n)
 units-repeated u p base lo hi n = bool-ext (units u lo hi n) (repeated base u lo hi (base + n)) there back
   where

@@ -91,7 +91,7 @@ pub record NumberPromises : Type 0 where
   pub long-back : (z : ℤ) → InRange (2 ^ 31) z → longOf (longBytes z) ≡ z
   pub short-bytes : (b : List ℕ) → Bytes b → length b ≡ 2 → shortBytes (shortOf b) ≡ b
   pub long-bytes : (b : List ℕ) → Bytes b → length b ≡ 4 → longBytes (longOf b) ≡ b
-  -- As many longs are read as stand there.
+  -- As many longs are read as the bytes hold.
   pub longs-count : (b : List ℕ) → length (longsOf b) ≡ length b / 4
 
 pub record RealPromises : Type 0 where
@@ -105,14 +105,14 @@ pub record RealPromises : Type 0 where
   pub exact-when : (w : ℕ) → ((x : Float) × (answer w ≡ Exact x)) ↔ (mantissa w / 2 ^ trailingZeros 64 (mantissa w) < 2 ^ 53)
   -- and precisely when some double has that value.
   pub exact-some : (w : ℕ) → ((x : Float) × (answer w ≡ Exact x)) ↔ ((x : Float) × T (fits binary64 x) × Means x (value w))
-  -- Either answer stands for the real's value,
+  -- Either answer means the real's value,
   pub answer-value : (w : ℕ) → answerValue (answer w) ≡ value w
   -- and Inexact keeps sign, e and m.
   pub inexact-keeps : (w : ℕ) (s : Bool) (e m : ℕ) → answer w ≡ Inexact s e m → (s ≡ negative w) × (e ≡ exponent w) × (m ≡ mantissa w)
 
 -- ---- the definitions agree with 01 stated a second time
 
--- Each context is what looking back at the known records behind it says.
+-- Each context is what looking back at the known records before it says.
 abbrev pub LooksBack : List Behind → List Placed → Type 0
 LooksBack bs [] = Unit {0}
 LooksBack bs (p ∷ ps) =
@@ -130,7 +130,7 @@ pub record Agreement : Type 0 where
   -- A field is a string exactly when it is a text without zero bytes and its padding, and then that is its text.
   pub strings : (b : List ℕ) → (goodString b ≡ true) ↔ IsString b (textOf b)
   pub texts : (b t : List ℕ) → IsString b t → textOf b ≡ t
-  -- The context of every record, in every file, is what the records behind it say.
+  -- The context of every record, in every file, is what the records before it say.
   pub contexts : (f : List ℕ) → LooksBack [] (walkOf f .records)
   -- Same meaning is "equally many records and, for every k," the same meaning of the k-th.
   pub each : (f g : List ℕ) → let ms = meanings (sequence f) in let ns = meanings (sequence g) in SameMeaning f g ↔ ((length ms ≡ length ns) × ((k : ℕ) → getElem? ms k ≡ getElem? ns k))

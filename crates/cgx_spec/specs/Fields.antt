@@ -32,7 +32,7 @@ pub data Field : Type 0 where
   string : Field
   -- "name or nothing"
   optional : Field
-  -- a field that does not stand: of an SREF, where its flag is off
+  -- a field that the record does not have: of an SREF, where its flag is off
   absent : Field
 
 -- ---- lengths (rule 8)
@@ -113,7 +113,7 @@ good absent b = true
 -- ---- meaning
 
 pub data Value : Type 0 where
-  -- the field does not stand: "an angle of 0 is not a missing angle"
+  -- the record does not have the field: "an angle of 0 is not a missing angle"
   missing : Value
   -- a real, by its exact value
   exactly : ℤ → Value
@@ -149,7 +149,7 @@ pub record Piece : Type 0 where
   pub field : Field
   pub bytes : List ℕ
 
--- The fields of a body, one after another. Bytes left over come last, as a field that should not stand: rule 8 is then that every piece fits.
+-- The fields of a body, one after another. Bytes left over come last, as a field that should be absent: rule 8 is then that every piece fits.
 unfoldable pub pieces : List Field → List ℕ → List Piece
 pieces [] b = record { field = absent; bytes = b } ∷ []
 pieces (f ∷ fs) b = record { field = f; bytes = take (width f (length b)) b } ∷ pieces fs (drop (width f (length b)) b)

@@ -58,7 +58,7 @@ unfoldable pub finish : ℕ → List ℕ → Verdict
 finish at [] = accepted
 finish at (b ∷ bs) = refused 13 at
 
--- What comes of the bytes from an offset on, behind this context.
+-- What comes of the bytes from an offset on, after this context.
 unfoldable pub step : Context → ℕ → List ℕ → Step
 step c at bs = cond (c .ended) (stop (finish at bs)) (judge c at (cut bs))
 
@@ -160,6 +160,6 @@ unfoldable pub views : List Placed → List View
 views [] = []
 views (p ∷ ps) = ifSeen (kindOf (p .rec .type)) p (views ps)
 
--- The views of the known records that stand before the verdict.
+-- The views of the known records before the verdict.
 unfoldable pub viewsOf : List ℕ → List View
 viewsOf f = views (walkOf f .records)

@@ -12,7 +12,7 @@ Bytes l = (i : ℕ) → getD l i 0 < 256
 
 -- ---- "Multi-byte numbers have the high byte first."
 
--- The number a with the bytes written behind it.
+-- The number a with the bytes written after it.
 abbrev pub after : ℕ → List ℕ → ℕ
 after a [] = a
 after a (b ∷ bs) = after (a * 256 + b) bs
@@ -29,7 +29,7 @@ digits (suc (suc n)) x = x / 256 ^ suc n % 256 ∷ digits (suc n) x
 
 -- ---- "Shorts (2 bytes) and longs (4 bytes) are two's complement."
 
--- Of the 2 · half numbers those from `half` on stand for the negative ones, n for n − 2 · half.
+-- Of the 2 · half numbers those from `half` on mean the negative ones, n for n − 2 · half.
 unfoldable pub twos : ℕ → ℕ → ℤ
 twos half n = cond (ltb n half) (pos n) (subℕ n (2 * half))
 
@@ -52,7 +52,7 @@ abbrev pub InRange : ℕ → ℤ → Type 0
 InRange half (pos n) = n < half
 InRange half (negsuc n) = n < half
 
--- The other way: the number that stands for z, and its bytes.
+-- The other way: the number that means z, and its bytes.
 unfoldable pub untwos : ℕ → ℤ → ℕ
 untwos half (pos n) = n
 untwos half (negsuc n) = 2 * half - suc n

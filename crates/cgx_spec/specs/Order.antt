@@ -1,4 +1,4 @@
--- 01, "Sequence and context": what a record needs of the records before it (rule 6), and what follows from it for those behind it. Definitions only.
+-- 01, "Sequence and context": what a record needs of the records before it (rule 6), and what follows from it for those after it. Definitions only.
 use mathlib.Core.Bool.{Bool, true, false, not}
 use mathlib.Core.List.{List, [], _∷_}
 use mathlib.Core.Option.{Option, none, some}
@@ -33,7 +33,7 @@ abbrev pub met : Context → Need → Bool
 met c LibraryBefore = c .library
 -- it "stands once"
 met c NoLibraryBefore = not (c .library)
--- CPRPTY and PROPERTY stand in a cell; "LAYER needs a cell", "SREF only a cell"
+-- CPRPTY and PROPERTY are in a cell; "LAYER needs a cell", "SREF only a cell"
 met c OpenCell = stands (c .cell)
 -- "BOX, POLY, WIRE and TEXT need a layer"
 met c LayerInForce = stands (c .layer)
@@ -57,7 +57,7 @@ needsOf (some Text) = LibraryBefore ∷ OpenCell ∷ LayerInForce ∷ []
 needsOf (some Sref) = LibraryBefore ∷ OpenCell ∷ []
 needsOf (some Endlib) = LibraryBefore ∷ NoneAwaiting ∷ []
 
--- Rule 6: a record may stand where each of its needs is met.
+-- Rule 6: a record is allowed where each of its needs is met.
 unfoldable pub allowed : Context → Option Kind → Bool
 allowed c o = every (met c) (needsOf o)
 

@@ -57,7 +57,7 @@ minus w = negative w && not (eqb (mantissa w) 0)
 unfoldable pub normal : ℕ → ℕ
 normal w = pack (minus w) (lower (exponent w) (mantissa w) .0) (lower (exponent w) (mantissa w) .1)
 
--- The sentence above as it stands; `Demands` says that `normal w` is the one number of 64 bits that meets it and has the value of w.
+-- The sentence above, word by word; `Demands` says that `normal w` is the one number of 64 bits that meets it and has the value of w.
 pub record IsNormal (w : ℕ) : Type 0 where
   pub full : (exponent w ≡ 0) ⊎ (2 ^ 52 ≤ mantissa w)
   pub bare : mantissa w ≡ 0 → w ≡ 0
@@ -81,7 +81,7 @@ Means nan v = ⊥
 Means (inf s) v = ⊥
 Means (fin s n d) v = signed s (n * up d * 2 ^ 312) ≡ v *ℤ pos (down d)
 
--- The value that an answer stands for.
+-- The value that an answer means.
 unfoldable pub floatValue : Float → ℤ
 floatValue nan = pos 0
 floatValue (inf s) = pos 0

@@ -13,7 +13,7 @@ use Rattle.cgx_spec.specs.Fields.{Value, Piece, pieces, lengthsFit, keep
 use Rattle.cgx_spec.specs.Kinds.{kindOf, goodFlags, flagsOf, layout}
 use Rattle.cgx_spec.specs.Order.{allowed, next, isObject}
 
--- A record as it stands in a file: "type byte, flags byte, body".
+-- A record as a file has it: "type byte, flags byte, body".
 pub record Rec : Type 0 where
   pub type : ℕ
   pub flags : ℕ
@@ -60,12 +60,12 @@ broken (r ∷ rs) = cond (r .kept) (broken rs) (some (r .number))
 abbrev pub fieldRules : List Piece → List Rule
 fieldRules ps = rule 8 (lengthsFit ps) ∷ rule 9 (keeps 9 ps) ∷ rule 10 (keeps 10 ps) ∷ rule 11 (keeps 11 ps) ∷ rule 12 (keeps 12 ps) ∷ []
 
--- Of a record that may stand where it does, or may not (rule 6). Nothing more is asked of an unknown one.
+-- Of a record that is allowed where it is, or is not (rule 6). Nothing more is asked of an unknown one.
 unfoldable pub rules : Bool → Option Kind → Rec → List Rule
 rules here none r = rule 6 here ∷ []
 rules here (some k) r = rule 6 here ∷ rule 7 (goodFlags k (r .flags)) ∷ fieldRules (piecesOf k r)
 
--- The number of the first rule that a record breaks behind this context.
+-- The number of the first rule that a record breaks after this context.
 abbrev pub faultOf : Context → Rec → Option ℕ
 faultOf c r = broken (rules (allowed c (kindOf (r .type))) (kindOf (r .type)) r)
 

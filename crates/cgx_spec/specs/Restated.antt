@@ -51,7 +51,7 @@ colsAt fl = magnifAt fl + cond (hasMagnif fl) 8 0
 abbrev pub nameAt : ℕ → ℕ
 nameAt fl = colsAt fl + cond (hasArray fl) 24 0
 
--- From lo to hi things of u bytes each, behind `base` bytes.
+-- From lo to hi things of u bytes each, after `base` bytes.
 abbrev pub repeated : ℕ → ℕ → ℕ → ℕ → ℕ → Bool
 repeated base u lo hi n = leb (base + u * lo) n && leb n (base + u * hi) && eqb ((n - base) % u) 0
 
@@ -66,7 +66,7 @@ goodSize Layer fl n = leb 8 n
 goodSize Box fl n = repeated 4 16 1 4095 n
 -- "4 to 8,191 pairs"
 goodSize Poly fl n = repeated 4 8 4 8191 n
--- "1 to 8,190 pairs", behind the width
+-- "1 to 8,190 pairs", after the width
 goodSize Wire fl n = repeated 8 8 1 8190 n
 goodSize Text fl n = leb 18 n
 -- "string ≥ 2 bytes"
@@ -183,7 +183,7 @@ polygonsAt Endlib = []
 abbrev pub bit : ℕ → ℕ → Bool
 bit n fl = eqb (fl / 2 ^ n % 2) 1
 
--- Where a TEXT stands of its anchor (001's left, center, right; bottom, center, top).
+-- Where a TEXT lies from its anchor (001's left, center, right; bottom, center, top).
 pub data Side : Type 0 where
   low : Side
   middle : Side

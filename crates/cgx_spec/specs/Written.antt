@@ -21,7 +21,7 @@ pub record Sized (r : Rec) : Type 0 where
   pub flags-byte : r .flags < 256
   pub body-bytes : Bytes (r .body)
 
--- The records are good one after another behind this context, and the last of them is ENDLIB.
+-- The records are good one after another from this context on, and the last of them is ENDLIB.
 abbrev pub GoodFrom : Context → ℕ → List Rec → Type 0
 GoodFrom c at [] = c .ended ≡ true
 GoodFrom c at (r ∷ rs) = (c .ended ≡ false) × Sized r × (faultOf c r ≡ none) × GoodFrom (next c at (kindOf (r .type))) (at + size r) rs
@@ -42,6 +42,6 @@ pub data Added : List Rec → List Rec → Type 0 where
   keep : {r : Rec} {rs rs' : List Rec} → Added rs rs' → Added (r ∷ rs) (r ∷ rs')
   extra : {u : Rec} {rs rs' : List Rec} → Extra u → Added rs rs' → Added rs (u ∷ rs')
 
--- The second file is the first with extra records behind its first record, which is LIBRARY, and before its last, which is ENDLIB.
+-- The second file is the first with extra records after its first record, which is LIBRARY, and before its last, which is ENDLIB.
 pub data AddedTo (f : List ℕ) : List ℕ → Type 0 where
   added : {r : Rec} {rs rs' : List Rec} → recordsOf f ≡ r ∷ rs → Added rs rs' → AddedTo f (take 4 f ++ join bytesOf (r ∷ rs'))

@@ -62,7 +62,7 @@ pub enum Need {
     OnlyCprpty,
 }
 
-// Where a walk stands: the offset of the next record and the context so far.
+// Where a walk is: the offset of the next record and the context so far.
 pub struct Place {
     pub at: usize,
     pub context: Context,

@@ -1,4 +1,4 @@
--- Asked only where the fields stand.
+-- Asked only where the fields are present.
 use native.Mathlib.Omega.{arith}
 use Rattle.cgx_bodies.proofs.Srefs.{grid-yes}
 use borrow.Author.Needs.{needs}

@@ -1,4 +1,4 @@
--- Asked only where the field stands.
+-- Asked only where the field is present.
 use native.Mathlib.Omega.{arith}
 use Rattle.cgx_bodies.proofs.Srefs.{magnif-yes}
 use borrow.Author.Needs.{needs}

@@ -1,4 +1,4 @@
--- `cgx_copy::put_real` is right: where the real stands, the eight bytes that `normal_bytes` makes of it are stored, and else nothing is. Assumes nothing.
+-- `cgx_copy::put_real` is right: where the real is present, the eight bytes that `normal_bytes` makes of it are stored, and else nothing is. Assumes nothing.
 use mathlib.Core.Path.{_≡_, sym, ap, _∙_}
 use Prim.Native.Nat.{ℕ, _+_, _-_}
 use native.Mathlib.Omega.{arith}

@@ -1,4 +1,4 @@
--- The invariant: no zero stands before `at`, since otherwise the function had answered. With these bytes the last piece covers all of b.
+-- The invariant: there is no zero before `at`, since otherwise the function had answered. With these bytes the last piece covers all of b.
 use mathlib.Core.Path.{_≡_, refl, _∙_}
 use mathlib.Core.Bool.{true}
 use Prim.Native.Nat.{_-_, _≤_}

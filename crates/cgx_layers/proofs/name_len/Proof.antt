@@ -1,4 +1,4 @@
--- A good string has two zero bytes behind its text where its last byte but one is zero, else one.
+-- A good string has two zero bytes after its text where its last byte but one is zero, else one.
 use native.Mathlib.Omega.{arith}
 use Rattle.cgx_layers.proofs.Layers.{no-bytes, two-zeros, one-zero}
 use borrow.Author.Needs.{needs}

@@ -1,4 +1,4 @@
--- `cgx_lists::box_at` is right: where the index stands, its bytes lie inside the file, and its longs are read one behind another. Assumes nothing.
+-- `cgx_lists::box_at` is right: where the index passes, its bytes lie inside the file, and its longs are read one after another. Assumes nothing.
 use mathlib.Core.Path.{_≡_, sym, _∙_}
 use mathlib.Core.Bool.{true}
 use Prim.Native.Nat.{_+_, _≤_, _<_}

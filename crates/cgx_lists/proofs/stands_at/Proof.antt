@@ -1,4 +1,4 @@
--- `cgx_lists::stands_at` is right: an index below the count stands where it is below the number of whole things that are left. Assumes nothing.
+-- `cgx_lists::stands_at` is right: an index below the count is inside where it is below the number of whole things that are left. Assumes nothing.
 use native.Mathlib.Omega.{arith}
 use Rattle.cgx_lists.proofs.Stands.{past-count, past-end, by-room}
 use borrow.Author.Needs.{needs}

@@ -1,4 +1,4 @@
--- `cgx_lists::text_inside` is right: the length is held to what is left behind the offset, so that no sum is made that might not fit. Assumes nothing.
+-- `cgx_lists::text_inside` is right: the length is held to what is left after the offset, so that no sum is made that might not fit. Assumes nothing.
 use mathlib.Core.Path.{sym}
 use native.Mathlib.Omega.{arith}
 use lib.Dec.{leb→le, le→leb}

@@ -1,4 +1,4 @@
--- `cgx_numbers::long_of` is right: it is the signed number that the bytes' number stands for. Assumes nothing.
+-- `cgx_numbers::long_of` is right: it is the signed number that the bytes' number means. Assumes nothing.
 use mathlib.Core.Path.{ap, _∙_}
 use Prim.Native.Nat.{_^_}
 use mir.Syntax.{w32}

@@ -1,4 +1,4 @@
--- `cgx_numbers::signed_long` is right: bits below half stand for themselves, and the others for -1 less what they lack to all ones. Assumes nothing.
+-- `cgx_numbers::signed_long` is right: bits below half mean themselves, and the others for -1 less what they lack to all ones. Assumes nothing.
 use native.Mathlib.Omega.{arith}
 use mir.Syntax.{w32}
 use Rattle.cgx_numbers.proofs.Signed.{low, high, high-fits}

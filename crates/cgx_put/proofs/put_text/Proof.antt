@@ -1,4 +1,4 @@
--- `cgx_put::put_text` is right: the one or two zero bytes behind the text are what `padded` adds to a text of its length. Assumes nothing.
+-- `cgx_put::put_text` is right: the one or two zero bytes after the text are what `padded` adds to a text of its length. Assumes nothing.
 use mathlib.Core.Path.{ap, _∙_}
 use native.Mathlib.Omega.{arith}
 use lib.ListN.{length, length-set}
