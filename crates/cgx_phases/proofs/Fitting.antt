@@ -7,11 +7,11 @@ use lib.Dec.{T}
 use Rattle.cgx_spec.specs.declared.Kind.{Kind}
 use Rattle.cgx_spec.specs.declared.Kind.the-variants.{Library as LIBRARY, Struct as STRUCT, Cprpty as CPRPTY, Property as PROPERTY, Layer as LAYER, Box as BOX, Poly as POLY, Wire as WIRE, Text as TEXT, Sref as SREF, Endlib as ENDLIB}
 use Rattle.cgx_spec.specs.declared.Context.{Context}
-use Rattle.cgx_spec.specs.Order.{start, allowed, next}
-use Rattle.cgx_spec.proofs.Chain.{State, stateOf, may, then, may-is, then-is}
+use Rattle.cgx_spec.specs.Order.{start, allowed, next, OrderFacts, factsOf}
+use Rattle.cgx_spec.proofs.Chain.{may, then, may-is, then-is}
 use Rattle.cgx_phases.specs.declared.Phase.{Phase}
 use Rattle.cgx_phases.specs.declared.Phase.the-variants.{Start, Library, Fresh, Cell, Layer, CellRun, LayerRun, Ended, Refused}
-use Rattle.cgx_phases.specs.Phases.{isEnded, standing, afterPhase, state, stateIn, seen, Fits}
+use Rattle.cgx_phases.specs.Phases.{isEnded, standing, afterPhase, facts, factsIn, seen, Fits}
 
 pub fits-start : Fits Start start
 unfolding Fits start
@@ -19,13 +19,13 @@ fits-start = refl
 
 -- ---- the table
 
--- where a record is allowed, the state after it
-abbrev onward : Option State → Option Kind → Option State
+-- where a record is allowed, the facts after it
+abbrev onward : Option OrderFacts → Option Kind → Option OrderFacts
 onward none o = none
 onward (some s) o = cond (may s o) (some (seen (then s o))) none
 
 abbrev Agrees : Phase → Option Kind → Type 0
-Agrees p o = onward (stateIn p) o ≡ stateIn (afterPhase p o)
+Agrees p o = onward (factsIn p) o ≡ factsIn (afterPhase p o)
 
 each-kind : (q : Phase) → Agrees q none → Agrees q (some LIBRARY) → Agrees q (some STRUCT) → Agrees q (some CPRPTY) → Agrees q (some PROPERTY) → Agrees q (some LAYER) → Agrees q (some BOX) → Agrees q (some POLY) → Agrees q (some WIRE) → Agrees q (some TEXT) → Agrees q (some SREF) → Agrees q (some ENDLIB) → (o : Option Kind) → Agrees q o
 each-kind q u l s c p y b o w t r e none = u
@@ -56,15 +56,15 @@ table Refused e = each-kind Refused refl refl refl refl refl refl refl refl refl
 
 -- ---- the laws
 
-abbrev over : Option State → Bool
+abbrev over : Option OrderFacts → Bool
 over none = false
 over (some s) = s .ended
 
-abbrev stood : Option State → Bool
+abbrev stood : Option OrderFacts → Bool
 stood none = false
 stood (some s) = true
 
-ended-in : (p : Phase) → over (stateIn p) ≡ isEnded p
+ended-in : (p : Phase) → over (factsIn p) ≡ isEnded p
 ended-in Start = refl
 ended-in Library = refl
 ended-in Fresh = refl
@@ -75,7 +75,7 @@ ended-in LayerRun = refl
 ended-in Ended = refl
 ended-in Refused = refl
 
-stands-in : (p : Phase) → stood (stateIn p) ≡ standing p
+stands-in : (p : Phase) → stood (factsIn p) ≡ standing p
 stands-in Start = refl
 stands-in Library = refl
 stands-in Fresh = refl
@@ -86,39 +86,39 @@ stands-in LayerRun = refl
 stands-in Ended = refl
 stands-in Refused = refl
 
-seen-ended : (s : State) → seen s .ended ≡ s .ended
+seen-ended : (s : OrderFacts) → seen s .ended ≡ s .ended
 seen-ended s = go (s .ended) refl
   where
-    go : (b : Bool) → s .ended ≡ b → cond b (state false false false false false true) s .ended ≡ s .ended
+    go : (b : Bool) → s .ended ≡ b → cond b (facts false false false false false true) s .ended ≡ s .ended
     go true e = sym e
     go false e = refl
 
-stands-when : (b : Bool) (s : State) → stood (cond b (some s) none) ≡ b
+stands-when : (b : Bool) (s : OrderFacts) → stood (cond b (some s) none) ≡ b
 stands-when true s = refl
 stands-when false s = refl
 
 module _ (p : Phase) (c : Context) (f : Fits p c) where
   pub ended-is : c .ended ≡ isEnded p
   unfolding Fits
-  ended-is = sym (seen-ended (stateOf c)) ∙ ap over f ∙ ended-in p
+  ended-is = sym (seen-ended (factsOf c)) ∙ ap over f ∙ ended-in p
 
   module _ (e : isEnded p ≡ false) where
-    going : some (stateOf c) ≡ stateIn p
+    going : some (factsOf c) ≡ factsIn p
     unfolding Fits
-    going = ap (λ (b : Bool). some (cond b (state false false false false false true) (stateOf c))) (sym (ended-is ∙ e)) ∙ f
+    going = ap (λ (b : Bool). some (cond b (facts false false false false false true) (factsOf c))) (sym (ended-is ∙ e)) ∙ f
 
     module _ (at : ℕ) (o : Option Kind) where
-      on : cond (allowed c o) (some (seen (stateOf (next c at o)))) none ≡ stateIn (afterPhase p o)
+      on : cond (allowed c o) (some (seen (factsOf (next c at o)))) none ≡ factsIn (afterPhase p o)
       on =
-          ap₂ (λ (b : Bool) (s : State). cond b (some (seen s)) none) (may-is c o) (then-is c at o)
-          ∙ ap (λ (s : Option State). onward s o) going
+          ap₂ (λ (b : Bool) (s : OrderFacts). cond b (some (seen s)) none) (may-is c o) (then-is c at o)
+          ∙ ap (λ (s : Option OrderFacts). onward s o) going
           ∙ table p e o
 
       -- rule 6
       pub allowed-is : allowed c o ≡ standing (afterPhase p o)
-      allowed-is = sym (stands-when (allowed c o) (seen (stateOf (next c at o)))) ∙ ap stood on ∙ stands-in (afterPhase p o)
+      allowed-is = sym (stands-when (allowed c o) (seen (factsOf (next c at o)))) ∙ ap stood on ∙ stands-in (afterPhase p o)
 
       -- and what follows
       pub fits-on : allowed c o ≡ true → Fits (afterPhase p o) (next c at o)
       unfolding Fits
-      fits-on a = ap (λ (b : Bool). cond b (some (seen (stateOf (next c at o)))) none) (sym a) ∙ on
+      fits-on a = ap (λ (b : Bool). cond b (some (seen (factsOf (next c at o)))) none) (sym a) ∙ on

@@ -5,7 +5,7 @@ use mathlib.Core.Option.{Option, none, some}
 use Rattle.cgx_spec.specs.declared.Kind.{Kind}
 use Rattle.cgx_spec.specs.declared.Kind.the-variants.{Library as LIBRARY, Struct as STRUCT, Cprpty as CPRPTY, Property as PROPERTY, Layer as LAYER, Box as BOX, Poly as POLY, Wire as WIRE, Text as TEXT, Sref as SREF, Endlib as ENDLIB}
 use Rattle.cgx_spec.specs.declared.Context.{Context}
-use Rattle.cgx_spec.proofs.Chain.{State, stateOf}
+use Rattle.cgx_spec.specs.Order.{OrderFacts, factsOf}
 use Rattle.cgx_phases.specs.declared.Phase.{Phase}
 use Rattle.cgx_phases.specs.declared.Phase.the-variants.{Start, Library, Fresh, Cell, Layer, CellRun, LayerRun, Ended, Refused}
 
@@ -78,26 +78,26 @@ afterPhase p (some ENDLIB) = afterEndlib p
 -- ---- what a phase says of a context
 
 -- library, cell, layer, fresh, waiting, ended
-abbrev pub state : Bool → Bool → Bool → Bool → Bool → Bool → State
-state l c y f w e = record { library = l; cell = c; layer = y; fresh = f; waiting = w; ended = e }
+abbrev pub facts : Bool → Bool → Bool → Bool → Bool → Bool → OrderFacts
+facts l c y f w e = record { library = l; cell = c; layer = y; fresh = f; waiting = w; ended = e }
 
-abbrev pub stateIn : Phase → Option State
-stateIn =
+abbrev pub factsIn : Phase → Option OrderFacts
+factsIn =
     row
-    (some (state false false false false false false))
-    (some (state true false false false false false))
-    (some (state true true false true false false))
-    (some (state true true false false false false))
-    (some (state true true true false false false))
-    (some (state true true false false true false))
-    (some (state true true true false true false))
-    (some (state false false false false false true))
+    (some (facts false false false false false false))
+    (some (facts true false false false false false))
+    (some (facts true true false true false false))
+    (some (facts true true false false false false))
+    (some (facts true true true false false false))
+    (some (facts true true false false true false))
+    (some (facts true true true false true false))
+    (some (facts false false false false false true))
     none
 
 -- after ENDLIB rule 6 is asked no more, so that the phase is one whatever was open
-abbrev pub seen : State → State
-seen s = cond (s .ended) (state false false false false false true) s
+abbrev pub seen : OrderFacts → OrderFacts
+seen s = cond (s .ended) (facts false false false false false true) s
 
 -- The phase is what rule 6 sees of the context.
 unfoldable pub Fits : Phase → Context → Type 0
-Fits p c = some (seen (stateOf c)) ≡ stateIn p
+Fits p c = some (seen (factsOf c)) ≡ factsIn p

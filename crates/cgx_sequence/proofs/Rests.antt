@@ -12,12 +12,12 @@ use Rattle.cgx_spec.specs.Numbers.{Bytes}
 use Rattle.cgx_spec.specs.Fields.{join}
 use Rattle.cgx_spec.specs.Kinds.{kindOf}
 use Rattle.cgx_spec.specs.declared.Context.{Context}
-use Rattle.cgx_spec.specs.Order.{start, next}
+use Rattle.cgx_spec.specs.Order.{start, next, OrderFacts, factsOf}
 use Rattle.cgx_spec.specs.Records.{Rec, size, bytesOf}
 use Rattle.cgx_spec.specs.Files.{Accepted, walkOf, recordsOf, known, ifKnown}
 use Rattle.cgx_spec.specs.Walking.{recAt, Held}
 use Rattle.cgx_spec.specs.Written.{Sized, placeAll}
-use Rattle.cgx_spec.proofs.Chain.{State, stateOf, may, then, Chain, file-sound, file-places}
+use Rattle.cgx_spec.proofs.Chain.{may, then, Chain, file-sound, file-places}
 use Rattle.cgx_headers.proofs.Heads.{held-size}
 use Rattle.cgx_headers.specs.declared.RecordType.the-variants.{Known as knownType, Unknown}
 use Rattle.cgx_headers.specs.declared.Header.{Header}
@@ -75,7 +75,7 @@ module _ (f : List ℕ) (at : ℕ) (r : Rec) (bs : List ℕ) (e : drop at f ≡ 
 
 -- ---- the records of an accepted file
 
-chain-kept : (rs : List Rec) (s : State) → Chain s rs → AllKept rs
+chain-kept : (rs : List Rec) (s : OrderFacts) → Chain s rs → AllKept rs
 chain-kept [] s c = tt
 chain-kept (r ∷ rs) s c =
     let o = kindOf (r .type) in (c .1, record { here = may s o; kept = c .2 }, chain-kept rs (then s o) (c .3))
@@ -84,7 +84,7 @@ chain-kept (r ∷ rs) s c =
 pub first-rest : (f : List ℕ) → Bytes f → Accepted f → Rest f 4 (recordsOf f)
 first-rest f h a =
     let e = ap length (file-sound f h a .0) in
-    record { bytes = ap (drop 4) (file-sound f h a .0); kept = chain-kept (recordsOf f) (stateOf start) (file-sound f h a .1); inside = omega arith }
+    record { bytes = ap (drop 4) (file-sound f h a .0); kept = chain-kept (recordsOf f) (factsOf start) (file-sound f h a .1); inside = omega arith }
 
 -- and with their offsets and contexts, those of the walk
 pub first-places : (f : List ℕ) → Bytes f → Accepted f → knownPlaces (walkOf f .records) ≡ knownPlaces (placeAll start 4 (recordsOf f))

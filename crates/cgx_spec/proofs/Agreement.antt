@@ -16,7 +16,7 @@ use Rattle.cgx_spec.specs.declared.Run.the-variants.{Of}
 use Rattle.cgx_spec.specs.declared.Context.{Context}
 use Rattle.cgx_spec.specs.declared.Verdict.the-variants.{Refused as refused}
 use Rattle.cgx_spec.specs.Strings.{textOf, padded, same, goodString}
-use Rattle.cgx_spec.specs.Kinds.{kindOf, orientation, flagsFor, allows, meant, goodFlags, flagsOf}
+use Rattle.cgx_spec.specs.Kinds.{kindOf, typeFor, orientation, flagsFor, allows, meant, goodFlags, flagsOf}
 use Rattle.cgx_spec.specs.Order.{start, longer, next}
 use Rattle.cgx_spec.specs.Records.{size, contextAfter}
 use Rattle.cgx_spec.specs.Files.{Step, stop, go, step, walk, opening, opened, begin, walkOf}
@@ -29,19 +29,36 @@ use Rattle.cgx_spec.proofs.Steps.{StepAt, step-at}
 
 -- ---- types
 
+pub kind-for : (k : Kind) → kindOf (typeFor k) ≡ some k
+unfolding kindOf
+kind-for Library = refl
+kind-for Struct = refl
+kind-for Cprpty = refl
+kind-for Property = refl
+kind-for Layer = refl
+kind-for Box = refl
+kind-for Poly = refl
+kind-for Wire = refl
+kind-for Text = refl
+kind-for Sref = refl
+kind-for Endlib = refl
+
+types-written : (k : Kind) → typeFor k ≡ typeByte k
+unfolding typeByte
+types-written Library = refl
+types-written Struct = refl
+types-written Cprpty = refl
+types-written Property = refl
+types-written Layer = refl
+types-written Box = refl
+types-written Poly = refl
+types-written Wire = refl
+types-written Text = refl
+types-written Sref = refl
+types-written Endlib = refl
+
 types : (k : Kind) → kindOf (typeByte k) ≡ some k
-unfolding kindOf typeByte
-types Library = refl
-types Struct = refl
-types Cprpty = refl
-types Property = refl
-types Layer = refl
-types Box = refl
-types Poly = refl
-types Wire = refl
-types Text = refl
-types Sref = refl
-types Endlib = refl
+types k = ap kindOf (sym (types-written k)) ∙ kind-for k
 
 -- ---- flags
 
@@ -269,6 +286,7 @@ pub agreement : Agreement
 agreement =
     record {
       types = types;
+      types-written = types-written;
       unknown = unknown-kind;
       sizes = sizes-agree;
       flags = flags-allowed;

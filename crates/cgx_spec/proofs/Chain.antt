@@ -20,7 +20,7 @@ use Rattle.cgx_spec.specs.declared.Verdict.the-variants.{Accepted as acc
 use Rattle.cgx_spec.specs.Numbers.{Bytes}
 use Rattle.cgx_spec.specs.Fields.{good, every, join}
 use Rattle.cgx_spec.specs.Kinds.{kindOf, count}
-use Rattle.cgx_spec.specs.Order.{start, stands, awaiting, met, needsOf, allowed, longer, next}
+use Rattle.cgx_spec.specs.Order.{start, stands, awaiting, met, needsOf, allowed, longer, next, OrderFacts, factsOf}
 use Rattle.cgx_spec.specs.Records.{Rec, size, bytesOf, rule, broken, rules, faultOf, Placed, contextAfter}
 use Rattle.cgx_spec.specs.Files.{Cut, bad, found, cutBody, cut, Step, stop, go, settle, judge, finish, step, Walk, before, walk, header, opening, opened, begin, walkOf, verdictOf, Accepted, recordsOf}
 use Rattle.cgx_spec.specs.Written.{Sized, GoodFrom, placeAll, last}
@@ -83,21 +83,8 @@ cut-sound (a ∷ b ∷ t ∷ fl ∷ bs) h = cut-sound-body a b t fl bs h
 
 -- ---- a step
 
--- a context without its offsets: what rule 6 looks at
-pub record State : Type 0 where
-  pub library : Bool
-  pub cell : Bool
-  pub layer : Bool
-  pub fresh : Bool
-  pub waiting : Bool
-  pub ended : Bool
-
-abbrev pub stateOf : Context → State
-stateOf c =
-    record { library = c .library; cell = stands (c .cell); layer = stands (c .layer); fresh = c .fresh; waiting = awaiting (c .run); ended = c .ended }
-
--- `met`, `allowed` and `next`, of a state
-abbrev pub holds : State → Need → Bool
+-- `met`, `allowed` and `next`, of these facts
+abbrev pub holds : OrderFacts → Need → Bool
 holds s LibraryBefore = s .library
 holds s NoLibraryBefore = not (s .library)
 holds s OpenCell = s .cell
@@ -105,13 +92,13 @@ holds s LayerInForce = s .layer
 holds s NoneAwaiting = not (s .waiting)
 holds s OnlyCprpty = s .fresh
 
-unfoldable pub may : State → Option Kind → Bool
+unfoldable pub may : OrderFacts → Option Kind → Bool
 may s o = every (holds s) (needsOf o)
 
-abbrev object : State → State
+abbrev object : OrderFacts → OrderFacts
 object s = record { library = s .library; cell = s .cell; layer = s .layer; fresh = false; waiting = false; ended = false }
 
-unfoldable pub then : State → Option Kind → State
+unfoldable pub then : OrderFacts → Option Kind → OrderFacts
 then s none = s
 then s (some Library) = record { library = true; cell = false; layer = false; fresh = false; waiting = false; ended = false }
 then s (some Struct) = record { library = s .library; cell = true; layer = false; fresh = true; waiting = false; ended = false }
@@ -125,7 +112,7 @@ then s (some Text) = object s
 then s (some Sref) = object s
 then s (some Endlib) = record { library = s .library; cell = s .cell; layer = s .layer; fresh = false; waiting = false; ended = true }
 
-met-is : (c : Context) (n : Need) → met c n ≡ holds (stateOf c) n
+met-is : (c : Context) (n : Need) → met c n ≡ holds (factsOf c) n
 met-is c LibraryBefore = refl
 met-is c NoLibraryBefore = refl
 met-is c OpenCell = refl
@@ -133,11 +120,11 @@ met-is c LayerInForce = refl
 met-is c NoneAwaiting = refl
 met-is c OnlyCprpty = refl
 
-pub may-is : (c : Context) (o : Option Kind) → allowed c o ≡ may (stateOf c) o
+pub may-is : (c : Context) (o : Option Kind) → allowed c o ≡ may (factsOf c) o
 unfolding allowed may
 may-is c o = each (needsOf o)
   where
-    each : (ns : List Need) → every (met c) ns ≡ every (holds (stateOf c)) ns
+    each : (ns : List Need) → every (met c) ns ≡ every (holds (factsOf c)) ns
     each [] = refl
     each (n ∷ ns) = ap₂ _&&_ (met-is c n) (each ns)
 
@@ -145,7 +132,7 @@ waits-on : (r : Run) (at : ℕ) → awaiting (longer r at) ≡ true
 waits-on Empty at = refl
 waits-on (Of first count) at = refl
 
-pub then-is : (c : Context) (at : ℕ) (o : Option Kind) → stateOf (next c at o) ≡ then (stateOf c) o
+pub then-is : (c : Context) (at : ℕ) (o : Option Kind) → factsOf (next c at o) ≡ then (factsOf c) o
 unfolding then
 then-is c at none = refl
 then-is c at (some Library) = refl
@@ -161,19 +148,19 @@ then-is c at (some Text) = refl
 then-is c at (some Sref) = refl
 then-is c at (some Endlib) = refl
 
--- the first rule that a record breaks, by the state before it
-abbrev pub fault : State → Rec → Option ℕ
+-- the first rule that a record breaks, by the facts before it
+abbrev pub fault : OrderFacts → Rec → Option ℕ
 fault s r = broken (rules (may s (kindOf (r .type))) (kindOf (r .type)) r)
 
--- the records are good from a state on, and the last of them is ENDLIB
-abbrev pub Chain : State → List Rec → Type 0
+-- the records are good from some facts on, and the last of them is ENDLIB
+abbrev pub Chain : OrderFacts → List Rec → Type 0
 Chain s [] = s .ended ≡ true
 Chain s (r ∷ rs) = (s .ended ≡ false) × Sized r × (fault s r ≡ none) × Chain (then s (kindOf (r .type))) rs
 
 abbrev pub placed : Context → ℕ → Rec → Placed
 placed c at r = record { at = at; context = c; rec = r }
 
-pub step-of : (c : Context) (at : ℕ) (r : Rec) (bs : List ℕ) → c .ended ≡ false → Sized r → fault (stateOf c) r ≡ none → step c at (bytesOf r ++ bs) ≡ go (placed c at r) bs
+pub step-of : (c : Context) (at : ℕ) (r : Rec) (bs : List ℕ) → c .ended ≡ false → Sized r → fault (factsOf c) r ≡ none → step c at (bytesOf r ++ bs) ≡ go (placed c at r) bs
 unfolding step judge settle
 step-of c at r bs e h b =
     let x = bytesOf r ++ bs in
@@ -187,7 +174,7 @@ step-end c at e = ap (λ (z : Bool). cond z (stop (finish at [])) (judge c at (c
 abbrev StepSound : Context → List ℕ → Step → Type 0
 StepSound c bs (stop v) = v ≡ accepted → (bs ≡ []) × (c .ended ≡ true)
 StepSound c bs (go p rest) =
-    (bs ≡ bytesOf (p .rec) ++ rest) × (c .ended ≡ false) × Sized (p .rec) × (fault (stateOf c) (p .rec) ≡ none) × (p .context ≡ c) × Bytes rest
+    (bs ≡ bytesOf (p .rec) ++ rest) × (c .ended ≡ false) × Sized (p .rec) × (fault (factsOf c) (p .rec) ≡ none) × (p .context ≡ c) × Bytes rest
 
 step-sound : (c : Context) (at : ℕ) (bs : List ℕ) → Bytes bs → StepSound c bs (step c at bs)
 unfolding step settle judge finish
@@ -215,11 +202,11 @@ step-sound c at bs h = one (c .ended) refl
 abbrev pub recs : Walk → List Rec
 recs w = map (λ p. p .rec) (w .records)
 
-pub after-is : (c : Context) (p : Placed) → p .context ≡ c → stateOf (contextAfter p) ≡ then (stateOf c) (kindOf (p .rec .type))
+pub after-is : (c : Context) (p : Placed) → p .context ≡ c → factsOf (contextAfter p) ≡ then (factsOf c) (kindOf (p .rec .type))
 unfolding contextAfter
-after-is c p e = then-is (p .context) (p .at) (kindOf (p .rec .type)) ∙ ap (λ (u : Context). then (stateOf u) (kindOf (p .rec .type))) e
+after-is c p e = then-is (p .context) (p .at) (kindOf (p .rec .type)) ∙ ap (λ (u : Context). then (factsOf u) (kindOf (p .rec .type))) e
 
-pub walk-sound : (k : ℕ) (c : Context) (bs : List ℕ) (st : Step) → StepSound c bs st → walk k st .verdict ≡ accepted → (bs ≡ join bytesOf (recs (walk k st))) × Chain (stateOf c) (recs (walk k st))
+pub walk-sound : (k : ℕ) (c : Context) (bs : List ℕ) (st : Step) → StepSound c bs st → walk k st .verdict ≡ accepted → (bs ≡ join bytesOf (recs (walk k st))) × Chain (factsOf c) (recs (walk k st))
 unfolding walk
 walk-sound zero c bs (stop v) h e = h e
 walk-sound (suc k) c bs (stop v) h e = h e
@@ -228,16 +215,16 @@ walk-sound (suc k) c bs (go p rest) h e =
     let at = p .at + size (p .rec) in
     let st = step (contextAfter p) at rest in
     let ih = walk-sound k (contextAfter p) rest st (step-sound (contextAfter p) at rest (h .5)) e in
-    (h .0 ∙ ap (λ t. bytesOf (p .rec) ++ t) (ih .0), (h .1, h .2, h .3, subst (λ (u : State). Chain u (recs (walk k st))) (after-is c p (h .4)) (ih .1)))
+    (h .0 ∙ ap (λ t. bytesOf (p .rec) ++ t) (ih .0), (h .1, h .2, h .3, subst (λ (u : OrderFacts). Chain u (recs (walk k st))) (after-is c p (h .4)) (ih .1)))
 
-pub walk-complete : (rs : List Rec) (k : ℕ) (c : Context) (at : ℕ) → length rs ≤ k → Chain (stateOf c) rs → (walk k (step c at (join bytesOf rs)) .verdict ≡ accepted) × (recs (walk k (step c at (join bytesOf rs))) ≡ rs)
+pub walk-complete : (rs : List Rec) (k : ℕ) (c : Context) (at : ℕ) → length rs ≤ k → Chain (factsOf c) rs → (walk k (step c at (join bytesOf rs)) .verdict ≡ accepted) × (recs (walk k (step c at (join bytesOf rs))) ≡ rs)
 unfolding walk
 walk-complete [] zero c at l h = rw (step-end c at h) (refl, refl)
 walk-complete [] (suc k) c at l h = rw (step-end c at h) (refl, refl)
 walk-complete (r ∷ rs) zero c at l h = absurd (omega arith)
 walk-complete (r ∷ rs) (suc k) c at l h =
     let p = placed c at r in
-    let ih = walk-complete rs k (contextAfter p) (at + size r) (omega arith) (subst (λ (u : State). Chain u rs) (sym (after-is c p refl)) (h .3)) in
+    let ih = walk-complete rs k (contextAfter p) (at + size r) (omega arith) (subst (λ (u : OrderFacts). Chain u rs) (sym (after-is c p refl)) (h .3)) in
     rw (step-of c at r (join bytesOf rs) (h .0) (h .1) (h .2)) (ih .0, ap (λ t. r ∷ t) (ih .1))
 
 -- ---- whole files
@@ -256,19 +243,19 @@ Bytes-of r h =
     Bytes-cons (size r / 256) (size r % 256 ∷ r .type ∷ r .flags ∷ r .body) a
     (Bytes-cons (size r % 256) (r .type ∷ r .flags ∷ r .body) b (Bytes-cons (r .type) (r .flags ∷ r .body) (h .type-byte) (Bytes-cons (r .flags) (r .body) (h .flags-byte) (h .body-bytes))))
 
-pub Bytes-join : (s : State) (rs : List Rec) → Chain s rs → Bytes (join bytesOf rs)
+pub Bytes-join : (s : OrderFacts) (rs : List Rec) → Chain s rs → Bytes (join bytesOf rs)
 Bytes-join s [] c = λ i. zero-lt-suc 255
 Bytes-join s (r ∷ rs) c = Bytes-append (bytesOf r) (join bytesOf rs) (Bytes-of r (c .1)) (Bytes-join (then s (kindOf (r .type))) rs (c .3))
 
-pub file-complete : (rs : List Rec) → Chain (stateOf start) rs → Accepted (header ++ join bytesOf rs) × (recordsOf (header ++ join bytesOf rs) ≡ rs)
+pub file-complete : (rs : List Rec) → Chain (factsOf start) rs → Accepted (header ++ join bytesOf rs) × (recordsOf (header ++ join bytesOf rs) ≡ rs)
 unfolding Accepted verdictOf recordsOf walkOf begin opening
 file-complete rs c = walk-complete rs (length (header ++ join bytesOf rs)) start 4 (omega (arith, length-join rs)) c
 
 -- what it means that a walk has begun
 abbrev BeginSound : List ℕ → Step → Type 0
-BeginSound f st = (k : ℕ) → walk k st .verdict ≡ accepted → (f ≡ header ++ join bytesOf (recs (walk k st))) × Chain (stateOf start) (recs (walk k st))
+BeginSound f st = (k : ℕ) → walk k st .verdict ≡ accepted → (f ≡ header ++ join bytesOf (recs (walk k st))) × Chain (factsOf start) (recs (walk k st))
 
-begun : (f : List ℕ) (n at k : ℕ) → walk k (stop (refused n at)) .verdict ≡ accepted → (f ≡ header ++ join bytesOf (recs (walk k (stop (refused n at))))) × Chain (stateOf start) (recs (walk k (stop (refused n at))))
+begun : (f : List ℕ) (n at k : ℕ) → walk k (stop (refused n at)) .verdict ≡ accepted → (f ≡ header ++ join bytesOf (recs (walk k (stop (refused n at))))) × Chain (factsOf start) (recs (walk k (stop (refused n at))))
 unfolding walk
 begun f n at zero e = absurd (let z : _≡_ {A = ℕ} 0 1 = cc in omega arith)
 begun f n at (suc k) e = absurd (let z : _≡_ {A = ℕ} 0 1 = cc in omega arith)
@@ -299,30 +286,30 @@ begin-sound (a ∷ b ∷ c ∷ l ∷ bs) h = one (eqb a 99 && eqb b 103 && eqb c
     one true ez = two (eqb l 0) refl (true→T ez)
     one false ez = begun f 1 0
 
-pub file-sound : (f : List ℕ) → Bytes f → Accepted f → (f ≡ header ++ join bytesOf (recordsOf f)) × Chain (stateOf start) (recordsOf f)
+pub file-sound : (f : List ℕ) → Bytes f → Accepted f → (f ≡ header ++ join bytesOf (recordsOf f)) × Chain (factsOf start) (recordsOf f)
 unfolding Accepted verdictOf recordsOf walkOf
 file-sound f h e = begin-sound f h (length f) e
 
 -- ---- places and contexts
 
-pub good-chain : (rs : List Rec) (c : Context) (at : ℕ) → GoodFrom c at rs → Chain (stateOf c) rs
+pub good-chain : (rs : List Rec) (c : Context) (at : ℕ) → GoodFrom c at rs → Chain (factsOf c) rs
 good-chain [] c at h = h
 good-chain (r ∷ rs) c at h =
     let k = kindOf (r .type) in (
       h .0,
       h .1,
       ap (λ (m : Bool). broken (rules m k r)) (sym (may-is c k)) ∙ h .2,
-      subst (λ (u : State). Chain u rs) (then-is c at k) (good-chain rs (next c at k) (at + size r) (h .3)),
+      subst (λ (u : OrderFacts). Chain u rs) (then-is c at k) (good-chain rs (next c at k) (at + size r) (h .3)),
     )
 
-walk-places : (rs : List Rec) (k : ℕ) (c : Context) (at : ℕ) → length rs ≤ k → Chain (stateOf c) rs → walk k (step c at (join bytesOf rs)) .records ≡ placeAll c at rs
+walk-places : (rs : List Rec) (k : ℕ) (c : Context) (at : ℕ) → length rs ≤ k → Chain (factsOf c) rs → walk k (step c at (join bytesOf rs)) .records ≡ placeAll c at rs
 unfolding walk placeAll contextAfter
 walk-places [] zero c at l h = rw (step-end c at h) refl
 walk-places [] (suc k) c at l h = rw (step-end c at h) refl
 walk-places (r ∷ rs) zero c at l h = absurd (omega arith)
 walk-places (r ∷ rs) (suc k) c at l h =
     let p = placed c at r in
-    let ih = walk-places rs k (next c at (kindOf (r .type))) (at + size r) (omega arith) (subst (λ (u : State). Chain u rs) (sym (after-is c p refl)) (h .3)) in
+    let ih = walk-places rs k (next c at (kindOf (r .type))) (at + size r) (omega arith) (subst (λ (u : OrderFacts). Chain u rs) (sym (after-is c p refl)) (h .3)) in
     rw (step-of c at r (join bytesOf rs) (h .0) (h .1) (h .2)) (ap (λ t. p ∷ t) ih)
 
 -- the places and contexts of an accepted file are worked out from its records

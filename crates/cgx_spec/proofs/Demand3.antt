@@ -14,7 +14,7 @@ use Rattle.cgx_spec.specs.Numbers.{Bytes, after}
 use Rattle.cgx_spec.specs.Strings.{same}
 use Rattle.cgx_spec.specs.Fields.{any, good, exactly, normal, join, normalBytes}
 use Rattle.cgx_spec.specs.Kinds.{kindOf, layout}
-use Rattle.cgx_spec.specs.Order.{start}
+use Rattle.cgx_spec.specs.Order.{start, OrderFacts, factsOf}
 use Rattle.cgx_spec.specs.Records.{Rec, bytesOf, piecesOf, normalOf, broken, rules}
 use Rattle.cgx_spec.specs.Files.{go, before, header, Accepted, recordsOf, Known, ifKnown, known, sequence, meanings, SameMeaning, normals, normalForm}
 use Rattle.cgx_spec.specs.Written.{Sized, GoodFrom, Added, last, keep, extra, AddedTo, added}
@@ -22,10 +22,10 @@ use Rattle.cgx_spec.specs.Demands.{Demand3}
 use Rattle.cgx_spec.proofs.Lists.{Bytes-append, Bytes-take}
 use Rattle.cgx_spec.proofs.Pieces.{Fit, length-normalBytes, Bytes-normalBytes}
 use Rattle.cgx_spec.proofs.Normal.{Sound, sound-fit, keeps-rules, meaning-normal, rules-normal, flags-byte, known-same}
-use Rattle.cgx_spec.proofs.Chain.{State, stateOf, may, then, Chain, good-chain, Bytes-join, file-complete, file-sound}
+use Rattle.cgx_spec.proofs.Chain.{may, then, Chain, good-chain, Bytes-join, file-complete, file-sound}
 
-abbrev first : State
-first = stateOf start
+abbrev first : OrderFacts
+first = factsOf start
 
 -- ---- the known records of a good chain
 
@@ -38,7 +38,7 @@ abbrev pub AllGood : List Known → Type 0
 AllGood [] = Unit {0}
 AllGood (n ∷ ns) = Good n × AllGood ns
 
-pub chain-good : (rs : List Rec) (s : State) → Chain s rs → AllGood (known rs)
+pub chain-good : (rs : List Rec) (s : OrderFacts) → Chain s rs → AllGood (known rs)
 unfolding known
 chain-good [] s c = tt
 chain-good (r ∷ rs) s c = go (kindOf (r .type)) refl (c .2) (chain-good rs (then s (kindOf (r .type))) (c .3))
@@ -64,7 +64,7 @@ sized-normal k r h z =
       body-bytes = Bytes-normalBytes (piecesOf k r) h;
     }
 
-chain-normal : (rs : List Rec) (s : State) → Chain s rs → Chain s (normals (known rs))
+chain-normal : (rs : List Rec) (s : OrderFacts) → Chain s rs → Chain s (normals (known rs))
 unfolding known
 chain-normal [] s c = c
 chain-normal (r ∷ rs) s c = go (kindOf (r .type)) refl (c .2) (chain-normal rs (then s (kindOf (r .type))) (c .3))
@@ -163,12 +163,12 @@ known-added last = refl
 known-added (keep {r} a) = ap (ifKnown (kindOf (r .type)) r) (known-added a)
 known-added (extra {u} {rs} {rs'} x a) = ap (λ (o : Option Kind). ifKnown o u (known rs')) (unknown-kind (u .type) (x .type-unknown)) ∙ known-added a
 
-not-ended : {rs rs' : List Rec} (s : State) → Added rs rs' → Chain s rs → s .ended ≡ false
+not-ended : {rs rs' : List Rec} (s : OrderFacts) → Added rs rs' → Chain s rs → s .ended ≡ false
 not-ended s last c = c .0
 not-ended s (keep a) c = c .0
 not-ended s (extra x a) c = not-ended s a c
 
-library-stays : (s : State) (o : Option Kind) → s .library ≡ true → then s o .library ≡ true
+library-stays : (s : OrderFacts) (o : Option Kind) → s .library ≡ true → then s o .library ≡ true
 unfolding then
 library-stays s none h = h
 library-stays s (some Library) h = refl
@@ -199,7 +199,7 @@ library-first (some Text) r b = cc
 library-first (some Sref) r b = cc
 library-first (some Endlib) r b = cc
 
-chain-added : {rs rs' : List Rec} (s : State) → Added rs rs' → s .library ≡ true → Chain s rs → Chain s rs'
+chain-added : {rs rs' : List Rec} (s : OrderFacts) → Added rs rs' → s .library ≡ true → Chain s rs → Chain s rs'
 unfolding then
 chain-added s last l c = c
 chain-added s (keep {r} a) l c = (c .0, c .1, c .2, chain-added (then s (kindOf (r .type))) a (library-stays s (kindOf (r .type)) l) (c .3))

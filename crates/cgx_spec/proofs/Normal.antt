@@ -11,10 +11,9 @@ use Rattle.cgx_spec.specs.declared.Kind.{Kind}
 use Rattle.cgx_spec.specs.declared.Kind.the-variants.{Library, Struct, Cprpty, Property, Layer, Box, Poly, Wire, Text, Sref, Endlib}
 use Rattle.cgx_spec.specs.Numbers.{Bytes}
 use Rattle.cgx_spec.specs.Fields.{any, counts, ordered, closed, Field, real, positive, date, short, longs, string, optional, absent, fits, width, ruleOf, passes, good, normal, Piece, pieces, lengthsFit, keeps, values, normalBytes}
-use Rattle.cgx_spec.specs.Kinds.{kindOf, Flags, meaningless, version, upTo, orientation, flagsFor, allows, meant, goodFlags, flagsOf, layout}
+use Rattle.cgx_spec.specs.Kinds.{kindOf, typeFor, Flags, meaningless, version, upTo, orientation, flagsFor, allows, meant, goodFlags, flagsOf, layout}
 use Rattle.cgx_spec.specs.Records.{Rec, piecesOf, meaningOf, normalOf, Rule, rule, broken, rules}
 use Rattle.cgx_spec.specs.Files.{known, meanings}
-use Rattle.cgx_spec.specs.Restated.{typeByte}
 use Rattle.cgx_spec.proofs.Lists.{T→true, allBelow, at-each, every-cons, and-left, and-right}
 use Rattle.cgx_spec.proofs.Pieces.{Fit, fit, normalPiece, pieces-normal, lengthsFit-normal, keeps-normal, values-normal}
 use Rattle.cgx_spec.proofs.Same.{normal-same}
@@ -173,14 +172,14 @@ in-list (x ∷ l) (suc t) k e = let h : t < length l = in-list l t k e in omega 
 
 byteOf : Option Kind → ℕ
 byteOf none = 11
-byteOf (some k) = typeByte k
+byteOf (some k) = typeFor k
 
 typed : ℕ → Bool
 typed t = eqb (byteOf (kindOf t)) t
 
 -- a known record's type is its kind's
-pub type-is : (t : ℕ) (k : Kind) → kindOf t ≡ some k → t ≡ typeByte k
-unfolding kindOf byteOf typeByte typed allBelow
+pub type-is : (t : ℕ) (k : Kind) → kindOf t ≡ some k → t ≡ typeFor k
+unfolding kindOf byteOf typed allBelow
 type-is t k e =
     let l = Library ∷ Struct ∷ Cprpty ∷ Property ∷ Layer ∷ Box ∷ Poly ∷ Wire ∷ Text ∷ Sref ∷ Endlib ∷ [] in
     sym (eqb→eq (byteOf (kindOf t)) t (at-each 11 typed tt t (in-list l t k e))) ∙ ap byteOf e

@@ -21,7 +21,7 @@ use Rattle.cgx_spec.specs.Numbers.{Bytes, shortOf, longOf, longsOf, InRa
 use Rattle.cgx_spec.specs.Reals.{negative, exponent, mantissa, value, normal, IsNormal, answer, Means, answerValue}
 use Rattle.cgx_spec.specs.Strings.{textOf, goodString}
 use Rattle.cgx_spec.specs.Fields.{All, join, lengthsFit}
-use Rattle.cgx_spec.specs.Kinds.{kindOf, goodFlags, flagsOf}
+use Rattle.cgx_spec.specs.Kinds.{kindOf, typeFor, goodFlags, flagsOf}
 use Rattle.cgx_spec.specs.Order.{start}
 use Rattle.cgx_spec.specs.Records.{Rec, size, bytesOf, piecesOf, Placed, viewMeaning}
 use Rattle.cgx_spec.specs.Files.{header, walkOf, verdictOf, Accepted, recordsOf, known, sequence, meanings, SameMeaning, normals, normalForm, viewsOf}
@@ -119,8 +119,9 @@ LooksBack bs (p ∷ ps) =
     (p .context ≡ lookBack bs) × LooksBack (elim (kindOf (p .rec .type)) [ none ↦ bs | some k ↦ record { kind = k; at = p .at } ∷ bs ]) ps
 
 pub record Agreement : Type 0 where
-  -- The kinds are those of 01's type bytes, and no other type has one.
+  -- The kinds are those of 01's type bytes, which are also those that are written, and no other type has one.
   pub types : (k : Kind) → kindOf (typeByte k) ≡ some k
+  pub types-written : (k : Kind) → typeFor k ≡ typeByte k
   pub unknown : (t : ℕ) → 11 ≤ t → kindOf t ≡ none
   -- The fields of a record fit exactly when its size is one that 01 gives for its kind.
   pub sizes : (k : Kind) (r : Rec) → length (r .body) % 2 ≡ 0 → length (r .body) ≤ 65530 → lengthsFit (piecesOf k r) ≡ goodSize k (r .flags) (size r)

@@ -13,6 +13,20 @@ use Rattle.cgx_spec.specs.Fields.{any, counts, ordered, closed, Field, r
 unfoldable pub kindOf : ℕ → Option Kind
 kindOf t = getElem? (Library ∷ Struct ∷ Cprpty ∷ Property ∷ Layer ∷ Box ∷ Poly ∷ Wire ∷ Text ∷ Sref ∷ Endlib ∷ []) t
 
+-- The type byte of a kind.
+abbrev pub typeFor : Kind → ℕ
+typeFor Library = 0
+typeFor Struct = 1
+typeFor Cprpty = 2
+typeFor Property = 3
+typeFor Layer = 4
+typeFor Box = 5
+typeFor Poly = 6
+typeFor Wire = 7
+typeFor Text = 8
+typeFor Sref = 9
+typeFor Endlib = 10
+
 -- ---- flags
 
 -- What a kind's flags byte is.

@@ -103,3 +103,18 @@ isObject Wire = true
 isObject Text = true
 isObject Sref = true
 isObject Endlib = false
+
+-- ---- what rule 6 looks at
+
+-- A context without its offsets: whether there is a cell, a layer, a run.
+pub record OrderFacts : Type 0 where
+  pub library : Bool
+  pub cell : Bool
+  pub layer : Bool
+  pub fresh : Bool
+  pub waiting : Bool
+  pub ended : Bool
+
+abbrev pub factsOf : Context → OrderFacts
+factsOf c =
+    record { library = c .library; cell = stands (c .cell); layer = stands (c .layer); fresh = c .fresh; waiting = awaiting (c .run); ended = c .ended }
