@@ -1,7 +1,7 @@
 -- A record's normal form is its bytes with the flags that are meant and its normal reals stored over the others. Assumes nothing.
 use mathlib.Core.Path.{_≡_, sym, ap, ap₂, _∙_}
 use mathlib.Core.List.{List, [], _∷_, _++_}
-use Prim.Native.Nat.{ℕ, _+_, _*_, _-_, _/_, _%_, _≤_, _<_}
+use Prim.Native.Nat.{ℕ, _+_, _-_, _/_, _%_, _≤_, _<_}
 use native.Mathlib.Omega.{arith}
 use lib.Dec.{T}
 use lib.ListN.{length, take, drop, set, getD, length-drop}
@@ -9,7 +9,7 @@ use lib.Seq.{drop-drop, take-add, length-take-le}
 use Rattle.cgx_spec.specs.declared.Kind.{Kind}
 use Rattle.cgx_spec.specs.Kinds.{flagsOf}
 use Rattle.cgx_spec.specs.Records.{Rec, bytesOf, piecesOf, normalOf}
-use Rattle.cgx_spec.specs.Walking.{recAt, Held}
+use Rattle.cgx_spec.specs.Walking.{sizeAt, recAt, Held}
 use Rattle.cgx_spec.specs.Restated.{goodSize}
 use Rattle.cgx_spec.proofs.Lists.{true→T}
 use Rattle.cgx_spec.proofs.Sizes.{sizes-agree}
@@ -42,7 +42,7 @@ module _ (f : List ℕ) (at n : ℕ) (held : Held f at n) where
   body-length = length-take-le (n - 4) (drop (at + 4) f) (omega (arith, held .least, held .inside, length-drop (at + 4) f))
 
   -- the file's bytes are those of the record: its first two are its size
-  pub held-bytes : getD f at 0 * 256 + getD f (at + 1) 0 ≡ n → getD f (at + 1) 0 < 256 → take n (drop at f) ≡ bytesOf (recAt f at n)
+  pub held-bytes : sizeAt f at ≡ n → getD f (at + 1) 0 < 256 → take n (drop at f) ≡ bytesOf (recAt f at n)
   unfolding bytesOf recAt
   held-bytes e h =
       let b = take (n - 4) (drop (at + 4) f) in

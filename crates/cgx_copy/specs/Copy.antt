@@ -2,15 +2,15 @@
 use mathlib.Core.Path.{_≡_}
 use mathlib.Core.Bool.{Bool, true, false, cond}
 use mathlib.Core.List.{List, [], _++_}
-use Prim.Native.Nat.{ℕ, _+_, _*_, _≤_}
-use lib.ListN.{length, take, drop, getD}
+use Prim.Native.Nat.{ℕ, _+_, _≤_}
+use lib.ListN.{length, take, drop}
 use Rattle.cgx_spec.specs.declared.Kind.{Kind}
 use Rattle.cgx_spec.specs.declared.Kind.the-variants.{Library, Struct, Cprpty, Property, Layer, Box, Poly, Wire, Text, Sref, Endlib}
 use Rattle.cgx_spec.specs.Reals.{normalReal}
 use Rattle.cgx_spec.specs.Fields.{lengthsFit}
 use Rattle.cgx_spec.specs.Kinds.{angle, magnif}
 use Rattle.cgx_spec.specs.Records.{piecesOf}
-use Rattle.cgx_spec.specs.Walking.{recAt, Held}
+use Rattle.cgx_spec.specs.Walking.{sizeAt, recAt, Held}
 use Rattle.cgx_copy.specs.declared.Reals.{Reals}
 
 -- ---- the reals of a body
@@ -53,6 +53,6 @@ normalReals r b = realIf (r .first) (drop (r .skip) b) ++ realIf (r .second) (dr
 -- The file holds a record of this kind and size, as its first two bytes say, of a body that rule 8 allows; and there is room for it.
 pub record Copyable (k : Kind) (f : List ℕ) (at size : ℕ) (out : List ℕ) (to : ℕ) : Type 0 where
   pub held : Held f at size
-  pub says : getD f at 0 * 256 + getD f (at + 1) 0 ≡ size
+  pub says : sizeAt f at ≡ size
   pub fits : lengthsFit (piecesOf k (recAt f at size)) ≡ true
   pub room : to + size ≤ length out

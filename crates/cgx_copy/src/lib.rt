@@ -3,7 +3,7 @@
 ghost use mathlib.Core.Path.{_≡_};
 ghost use Prim.Native.Nat.{_+_, _≤_};
 ghost use lib.ListN.{length, drop, set};
-ghost use Rattle.cgx_spec.specs.Kinds.{orientation, textPlace, meant, flagsOf};
+ghost use Rattle.cgx_spec.specs.Kinds.{textPlace, textFlags, flagsOf};
 ghost use Rattle.cgx_spec.specs.Records.{bytesOf, normalOf};
 ghost use Rattle.cgx_spec.specs.Walking.{recAt};
 ghost use Rattle.cgx_put.specs.Put.{put};
@@ -46,7 +46,7 @@ pub fn flags_meant(k: Kind, fl: u8) -> u8
 }
 
 fn text_flags(fl: u8) -> u8
-    ensures { λ r. ⌜ r ≡ meant orientation fl ⌝ }
+    ensures { λ r. ⌜ r ≡ textFlags fl ⌝ }
 {
     fl % 16 + 16 * text_place(fl / 16 % 4) + 64 * text_place(fl / 64 % 4)
 }

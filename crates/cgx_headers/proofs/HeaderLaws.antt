@@ -2,11 +2,12 @@
 use mathlib.Core.Path.{_≡_, refl, sym, ap, _∙_}
 use mathlib.Core.List.{List, [], _∷_}
 use mathlib.Core.Option.{Option, none, some}
-use Prim.Native.Nat.{ℕ, suc, _+_, _*_, _≤_, _<_}
+use Prim.Native.Nat.{ℕ, suc, _+_, _≤_, _<_}
 use native.Mathlib.Omega.{arith}
 use lib.ListN.{length, getD, drop, take}
 use Rattle.cgx_spec.specs.declared.Kind.{Kind}
 use Rattle.cgx_spec.specs.Numbers.{number}
+use Rattle.cgx_spec.specs.Walking.{sizeAt}
 use Rattle.cgx_spec.specs.Kinds.{kindOf}
 use Rattle.cgx_numbers.proofs.Parts.{part}
 use Rattle.cgx_headers.specs.declared.RecordType.{RecordType}
@@ -36,7 +37,7 @@ kind-in (some k) = refl
 -- ---- the parts of a header that was read
 
 module _ (f : List ℕ) (at : ℕ) {h : Header} (e : h ≡ headerOf f at) where
-  pub size-says : h .size ≡ getD f at 0 * 256 + getD f (at + 1) 0
+  pub size-says : h .size ≡ sizeAt f at
   unfolding headerOf
   size-says = ap (λ (x : Header). x .size) e
 
@@ -49,9 +50,9 @@ module _ (f : List ℕ) (at : ℕ) {h : Header} (e : h ≡ headerOf f at) where
   flags-say = ap (λ (x : Header). x .flags) e
 
 -- the size, by its two bytes
-size-is : (f : List ℕ) (at : ℕ) {n : ℕ} → at + 2 ≤ length f → n ≡ number (take 2 (drop at f)) → n ≡ getD f at 0 * 256 + getD f (at + 1) 0
+size-is : (f : List ℕ) (at : ℕ) {n : ℕ} → at + 2 ≤ length f → n ≡ number (take 2 (drop at f)) → n ≡ sizeAt f at
 size-is f at h e =
-    let two : number (getD f at 0 ∷ getD f (at + 1) 0 ∷ []) ≡ getD f at 0 * 256 + getD f (at + 1) 0 = omega arith in
+    let two : number (getD f at 0 ∷ getD f (at + 1) 0 ∷ []) ≡ sizeAt f at = omega arith in
     e ∙ ap number (sym (part f at 1 h)) ∙ two
 
 -- ---- and one that is made of parts

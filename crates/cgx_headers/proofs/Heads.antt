@@ -11,7 +11,7 @@ use lib.ListN.{length, drop, getD, length-drop}
 use lib.Seq.{drop-drop, getD-drop, length-take-le}
 use Rattle.cgx_spec.specs.Records.{size}
 use Rattle.cgx_spec.specs.Files.{Cut, bad, found, cut, cutBody}
-use Rattle.cgx_spec.specs.Walking.{recAt, Held}
+use Rattle.cgx_spec.specs.Walking.{sizeAt, recAt, Held}
 use Rattle.cgx_headers.specs.declared.Header.{Header}
 use Rattle.cgx_headers.specs.declared.Headed.{Headed}
 use Rattle.cgx_headers.specs.declared.Headed.the-variants.{Bad, Good}
@@ -58,7 +58,7 @@ module _ (f : List ℕ) (at : ℕ) where
     abbrev n : ℕ
     n = h .size
 
-    e : n ≡ getD f at 0 * 256 + getD f (at + 1) 0
+    e : n ≡ sizeAt f at
     e = size-says f at r
 
     first : getD (drop at f) 0 0 ≡ getD f at 0

@@ -2,12 +2,12 @@
 use mathlib.Core.List.{List}
 use mathlib.Core.Option.{Option, none, some}
 use mathlib.Core.Path.{_≡_}
-use Prim.Native.Nat.{ℕ, _+_, _*_, _<_}
+use Prim.Native.Nat.{ℕ, _+_, _<_}
 use lib.ListN.{drop, getD}
 use Rattle.cgx_spec.specs.declared.Kind.{Kind}
 use Rattle.cgx_spec.specs.Kinds.{kindOf}
 use Rattle.cgx_spec.specs.Files.{Cut, bad, found, cut}
-use Rattle.cgx_spec.specs.Walking.{recAt, Held}
+use Rattle.cgx_spec.specs.Walking.{sizeAt, recAt, Held}
 use Rattle.cgx_headers.specs.declared.RecordType.{RecordType}
 use Rattle.cgx_headers.specs.declared.RecordType.the-variants.{Known, Unknown}
 use Rattle.cgx_headers.specs.declared.Header.{Header}
@@ -24,7 +24,7 @@ kindIn (Known k) = some k
 kindIn Unknown = none
 
 unfoldable pub headerOf : List ℕ → ℕ → Header
-headerOf f at = record { size = getD f at 0 * 256 + getD f (at + 1) 0; kind = typeOf (kindOf (getD f (at + 2) 0)); flags = getD f (at + 3) 0 }
+headerOf f at = record { size = sizeAt f at; kind = typeOf (kindOf (getD f (at + 2) 0)); flags = getD f (at + 3) 0 }
 
 -- ---- what is answered of the bytes at an offset
 

@@ -15,7 +15,7 @@ use Rattle.cgx_spec.specs.declared.Context.{Context}
 use Rattle.cgx_spec.specs.Order.{start, next, OrderFacts, factsOf}
 use Rattle.cgx_spec.specs.Records.{Rec, size, bytesOf}
 use Rattle.cgx_spec.specs.Files.{Accepted, walkOf, recordsOf, known, ifKnown}
-use Rattle.cgx_spec.specs.Walking.{recAt, Held}
+use Rattle.cgx_spec.specs.Walking.{sizeAt, recAt, Held}
 use Rattle.cgx_spec.specs.Written.{Sized, placeAll}
 use Rattle.cgx_spec.proofs.Chain.{may, then, Chain, file-sound, file-places}
 use Rattle.cgx_headers.proofs.Heads.{held-size}
@@ -38,7 +38,7 @@ module _ (f : List ℕ) (at : ℕ) (r : Rec) (bs : List ℕ) (e : drop at f ≡ 
   byte : (i : ℕ) → getD f (at + i) 0 ≡ getD (bytesOf r ++ bs) i 0
   byte i = sym (getD-drop at f i 0) ∙ ap (λ (l : List ℕ). getD l i 0) e
 
-  says : getD f at 0 * 256 + getD f (at + 1) 0 ≡ size r
+  says : sizeAt f at ≡ size r
   unfolding bytesOf
   says =
       let b₀ : getD f at 0 ≡ size r / 256 = ap (λ (k : ℕ). getD f k 0) (sym (add-zero at)) ∙ byte 0 in
@@ -99,7 +99,7 @@ pub record Turn (f : List ℕ) (at n : ℕ) (rs : List Rec) : Type 0 where
   pub kept : Kept (kindOf (getD f (at + 2) 0)) (recAt f at n)
   pub rest : Rest f (at + n) more
 
-pub turn : (f : List ℕ) (at n : ℕ) (rs : List Rec) → Rest f at rs → at < length f → n ≡ getD f at 0 * 256 + getD f (at + 1) 0 → Turn f at n rs
+pub turn : (f : List ℕ) (at n : ℕ) (rs : List Rec) → Rest f at rs → at < length f → n ≡ sizeAt f at → Turn f at n rs
 turn f at n [] h l e = absurd (let z = ap length (h .bytes) in omega (arith, length-drop at f))
 turn f at n (r ∷ rs) h l e =
     subst (λ (m : ℕ). Turn f at m (r ∷ rs)) (sym (e ∙ says f at r (join bytesOf rs) (h .bytes) (h .kept .0))) turned
@@ -121,7 +121,7 @@ turn f at n (r ∷ rs) h l e =
 
 pub enough : (f : List ℕ) (at : ℕ) (rs : List Rec) → Rest f at rs → at < length f → at + 4 ≤ length f
 enough f at rs h l =
-    let t = turn f at (getD f at 0 * 256 + getD f (at + 1) 0) rs h l refl in
+    let t = turn f at (sizeAt f at) rs h l refl in
     let g = t .held-in in
     let a = g .least in
     let i = g .inside in

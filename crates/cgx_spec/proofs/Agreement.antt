@@ -16,7 +16,7 @@ use Rattle.cgx_spec.specs.declared.Run.the-variants.{Of}
 use Rattle.cgx_spec.specs.declared.Context.{Context}
 use Rattle.cgx_spec.specs.declared.Verdict.the-variants.{Refused as refused}
 use Rattle.cgx_spec.specs.Strings.{textOf, padded, same, goodString}
-use Rattle.cgx_spec.specs.Kinds.{kindOf, typeFor, orientation, flagsFor, allows, meant, goodFlags, flagsOf}
+use Rattle.cgx_spec.specs.Kinds.{kindOf, typeFor, orientation, textFlags, meant, goodFlags, flagsOf}
 use Rattle.cgx_spec.specs.Order.{start, longer, next}
 use Rattle.cgx_spec.specs.Records.{size, contextAfter}
 use Rattle.cgx_spec.specs.Files.{Step, stop, go, step, walk, opening, opened, begin, walkOf}
@@ -66,7 +66,7 @@ byte : (fl : ℕ) → fl < 256 → true ≡ leb fl 255
 byte fl h = sym (T→true (le→leb fl 255 (omega arith)))
 
 flags-allowed : (k : Kind) (fl : ℕ) → fl < 256 → goodFlags k fl ≡ leb fl (highestFlags k)
-unfolding goodFlags flagsFor allows highestFlags
+unfolding highestFlags
 flags-allowed Library fl h = byte fl h
 flags-allowed Struct fl h = byte fl h
 flags-allowed Cprpty fl h = byte fl h
@@ -137,7 +137,7 @@ right : ℕ → Bool
 right fl = same (parts (orientationOf (meant orientation fl))) (parts (orientationOf fl)) && eqb (meant orientation fl) (meantBy (parts (orientationOf fl)))
 
 all-right : (fl : ℕ) → fl < 256 → T (right fl)
-unfolding right allBelow same meant parts meantBy orientationOf side sideNumber truth
+unfolding right allBelow same textFlags parts meantBy orientationOf side sideNumber truth
 all-right fl h = at-each 256 right tt fl h
 
 oriented : (fl : ℕ) → fl < 256 → (orientationOf (meant orientation fl) ≡ orientationOf fl) × (meant orientation fl ≡ meantBy (parts (orientationOf fl)))
@@ -150,20 +150,20 @@ oriented fl h =
     (parts-same o p (same→eq (parts o) (parts p) (and-left a b (all-right fl h))), eqb→eq (meant orientation fl) (meantBy (parts p)) (and-right a b (all-right fl h)))
 
 flags-alike : (k : Kind) (x y : ℕ) → x < 256 → y < 256 → (flagsOf k x ≡ flagsOf k y) ↔ FlagsAlike k x y
-flags-alike Library x y hx hy = unfold flagsOf flagsFor meant in (λ e. e, λ e. e)
-flags-alike Struct x y hx hy = unfold flagsOf flagsFor meant in (λ e. tt, λ t. refl)
-flags-alike Cprpty x y hx hy = unfold flagsOf flagsFor meant in (λ e. tt, λ t. refl)
-flags-alike Property x y hx hy = unfold flagsOf flagsFor meant in (λ e. tt, λ t. refl)
-flags-alike Layer x y hx hy = unfold flagsOf flagsFor meant in (λ e. tt, λ t. refl)
-flags-alike Box x y hx hy = unfold flagsOf flagsFor meant in (λ e. tt, λ t. refl)
-flags-alike Poly x y hx hy = unfold flagsOf flagsFor meant in (λ e. tt, λ t. refl)
-flags-alike Wire x y hx hy = unfold flagsOf flagsFor meant in (λ e. e, λ e. e)
-flags-alike Text x y hx hy = unfold flagsOf flagsFor in (
+flags-alike Library x y hx hy = (λ e. e, λ e. e)
+flags-alike Struct x y hx hy = (λ e. tt, λ t. refl)
+flags-alike Cprpty x y hx hy = (λ e. tt, λ t. refl)
+flags-alike Property x y hx hy = (λ e. tt, λ t. refl)
+flags-alike Layer x y hx hy = (λ e. tt, λ t. refl)
+flags-alike Box x y hx hy = (λ e. tt, λ t. refl)
+flags-alike Poly x y hx hy = (λ e. tt, λ t. refl)
+flags-alike Wire x y hx hy = (λ e. e, λ e. e)
+flags-alike Text x y hx hy = (
   (λ e. sym (oriented x hx .0) ∙ ap orientationOf e ∙ oriented y hy .0),
   (λ e. oriented x hx .1 ∙ ap (λ (o : Orientation). meantBy (parts o)) e ∙ sym (oriented y hy .1)),
 )
-flags-alike Sref x y hx hy = unfold flagsOf flagsFor meant in (λ e. e, λ e. e)
-flags-alike Endlib x y hx hy = unfold flagsOf flagsFor meant in (λ e. tt, λ t. refl)
+flags-alike Sref x y hx hy = (λ e. e, λ e. e)
+flags-alike Endlib x y hx hy = (λ e. tt, λ t. refl)
 
 -- ---- strings
 

@@ -11,7 +11,7 @@ use Rattle.cgx_spec.specs.declared.Kind.{Kind}
 use Rattle.cgx_spec.specs.declared.Kind.the-variants.{Library, Struct, Cprpty, Property, Layer, Box, Poly, Wire, Text, Sref, Endlib}
 use Rattle.cgx_spec.specs.Numbers.{Bytes}
 use Rattle.cgx_spec.specs.Fields.{any, counts, ordered, closed, Field, real, positive, date, short, longs, string, optional, absent, fits, width, ruleOf, passes, good, normal, Piece, pieces, lengthsFit, keeps, values, normalBytes}
-use Rattle.cgx_spec.specs.Kinds.{kindOf, typeFor, Flags, meaningless, version, upTo, orientation, flagsFor, allows, meant, goodFlags, flagsOf, layout}
+use Rattle.cgx_spec.specs.Kinds.{kindOf, typeFor, textFlags, Flags, meaningless, version, upTo, orientation, flagsFor, allows, meant, goodFlags, flagsOf, layout}
 use Rattle.cgx_spec.specs.Records.{Rec, piecesOf, meaningOf, normalOf, Rule, rule, broken, rules}
 use Rattle.cgx_spec.specs.Files.{known, meanings}
 use Rattle.cgx_spec.proofs.Lists.{T→true, allBelow, at-each, every-cons, and-left, and-right}
@@ -25,47 +25,43 @@ settled : ℕ → Bool
 settled fl = eqb (meant orientation (meant orientation fl)) (meant orientation fl) && ltb (meant orientation fl) 256
 
 all-settled : (fl : ℕ) → fl < 256 → T (settled fl)
-unfolding settled allBelow meant
+unfolding settled allBelow textFlags
 all-settled fl h = at-each 256 settled tt fl h
 
 meant-again : (f : Flags) (fl : ℕ) → fl < 256 → meant f (meant f fl) ≡ meant f fl
-meant-again meaningless fl h = unfold meant in refl
-meant-again version fl h = unfold meant in refl
-meant-again (upTo n) fl h = unfold meant in refl
+meant-again meaningless fl h = refl
+meant-again version fl h = refl
+meant-again (upTo n) fl h = refl
 meant-again orientation fl h =
     let m = meant orientation fl in
     unfold settled in (eqb→eq (meant orientation m) m (and-left (eqb (meant orientation m) m) (ltb m 256) (all-settled fl h)))
 
 meant-byte : (f : Flags) (fl : ℕ) → fl < 256 → meant f fl < 256
-meant-byte meaningless fl h = unfold meant in (omega arith)
-meant-byte version fl h = unfold meant in h
-meant-byte (upTo n) fl h = unfold meant in h
+meant-byte meaningless fl h = (omega arith)
+meant-byte version fl h = h
+meant-byte (upTo n) fl h = h
 meant-byte orientation fl h =
     let m = meant orientation fl in
     unfold settled in (ltb→lt m 256 (and-right (eqb (meant orientation m) m) (ltb m 256) (all-settled fl h)))
 
 allows-meant : (f : Flags) (fl : ℕ) → allows f (meant f fl) ≡ allows f fl
-unfolding allows meant
 allows-meant meaningless fl = refl
 allows-meant version fl = refl
 allows-meant (upTo n) fl = refl
 allows-meant orientation fl = refl
 
 pub flags-again : (k : Kind) (fl : ℕ) → fl < 256 → flagsOf k (flagsOf k fl) ≡ flagsOf k fl
-unfolding flagsOf
 flags-again k fl h = meant-again (flagsFor k) fl h
 
 pub flags-byte : (k : Kind) (fl : ℕ) → fl < 256 → flagsOf k fl < 256
-unfolding flagsOf
 flags-byte k fl h = meant-byte (flagsFor k) fl h
 
 goodFlags-flags : (k : Kind) (fl : ℕ) → goodFlags k (flagsOf k fl) ≡ goodFlags k fl
-unfolding goodFlags flagsOf
 goodFlags-flags k fl = allows-meant (flagsFor k) fl
 
 -- only SREF's flags choose fields, and they are kept
 layout-flags : (k : Kind) (fl : ℕ) → layout k (flagsOf k fl) ≡ layout k fl
-unfolding layout flagsOf flagsFor meant
+unfolding layout
 layout-flags Library fl = refl
 layout-flags Struct fl = refl
 layout-flags Cprpty fl = refl

@@ -5,7 +5,7 @@ use Rattle.cgx_spec.specs.Reals.{negative, exponent, mantissa, pack, val
 use Rattle.cgx_spec.specs.Dates.{calendar, goodDate}
 use Rattle.cgx_spec.specs.Strings.{textOf, padded, same, goodString}
 use Rattle.cgx_spec.specs.Fields.{All, fits, width, ruleOf, inOrder, passes, good, normal, pieces, lengthsFit, keeps, normalBytes}
-use Rattle.cgx_spec.specs.Kinds.{kindOf, flagsFor, allows, meant, goodFlags, flagsOf, layout}
+use Rattle.cgx_spec.specs.Kinds.{kindOf, textFlags, layout}
 use Rattle.cgx_spec.specs.Order.{start, allowed}
 use Rattle.cgx_spec.specs.Records.{bytesOf, piecesOf, normalOf, broken, rules, contextAfter}
 use Rattle.cgx_spec.specs.Files.{cutBody, cut, settle, judge, finish, step, walk, opening, begin, walkOf, verdictOf, recordsOf, known, sequence, normalForm}
@@ -21,5 +21,5 @@ all-hold =
     refl also refl also refl also refl also refl also (refl, refl) also (refl, refl) also (refl, refl) also refl also refl also refl also refl also (refl, refl, refl) also (refl, refl, refl) also tt
 
 pub drawing-is : Drawing
-unfolding twos shortOf longOf longsOf negative exponent mantissa pack wordValue positive lower minus wordNormal positiveReal normalReal calendar goodDate textOf padded same goodString fits width ruleOf inOrder passes good normal pieces lengthsFit keeps normalBytes kindOf flagsFor allows meant goodFlags flagsOf layout start allowed bytesOf piecesOf normalOf broken rules contextAfter cutBody cut settle judge finish step walk opening begin walkOf verdictOf recordsOf known sequence normalForm
+unfolding twos shortOf longOf longsOf negative exponent mantissa pack wordValue positive lower minus wordNormal positiveReal normalReal calendar goodDate textOf padded same goodString fits width ruleOf inOrder passes good normal pieces lengthsFit keeps normalBytes kindOf textFlags layout start allowed bytesOf piecesOf normalOf broken rules contextAfter cutBody cut settle judge finish step walk opening begin walkOf verdictOf recordsOf known sequence normalForm
 drawing-is = record { long = refl; taken = refl; offsets = refl; form = refl; second-59 = refl; second-60 = refl; text-flags = refl }

@@ -40,7 +40,7 @@ pub data Flags : Type 0 where
   -- a TEXT's turns and places
   orientation : Flags
 
-unfoldable pub flagsFor : Kind → Flags
+abbrev pub flagsFor : Kind → Flags
 flagsFor Library = version
 flagsFor Struct = meaningless
 flagsFor Cprpty = meaningless
@@ -54,7 +54,7 @@ flagsFor Sref = upTo 15
 flagsFor Endlib = meaningless
 
 -- Rule 7: the flags that are allowed.
-unfoldable pub allows : Flags → ℕ → Bool
+abbrev pub allows : Flags → ℕ → Bool
 allows meaningless fl = true
 allows version fl = true
 allows (upTo n) fl = leb fl n
@@ -64,17 +64,20 @@ allows orientation fl = true
 abbrev pub textPlace : ℕ → ℕ
 textPlace p = cond (eqb p 3) 0 p
 
+unfoldable pub textFlags : ℕ → ℕ
+textFlags fl = fl % 16 + 16 * textPlace (fl / 16 % 4) + 64 * textPlace (fl / 64 % 4)
+
 -- What the flags mean, which is also how the normal form has them: "meaningless flags are zeroed, each TEXT place 3 becomes 0".
-unfoldable pub meant : Flags → ℕ → ℕ
+abbrev pub meant : Flags → ℕ → ℕ
 meant meaningless fl = 0
 meant version fl = fl
 meant (upTo n) fl = fl
-meant orientation fl = fl % 16 + 16 * textPlace (fl / 16 % 4) + 64 * textPlace (fl / 64 % 4)
+meant orientation fl = textFlags fl
 
-unfoldable pub goodFlags : Kind → ℕ → Bool
+abbrev pub goodFlags : Kind → ℕ → Bool
 goodFlags k fl = allows (flagsFor k) fl
 
-unfoldable pub flagsOf : Kind → ℕ → ℕ
+abbrev pub flagsOf : Kind → ℕ → ℕ
 flagsOf k fl = meant (flagsFor k) fl
 
 -- ---- bodies, in the order of 01's table

@@ -3,7 +3,7 @@ use mathlib.Core.Path.{_≡_}
 use mathlib.Core.Bool.{Bool, true, not, _&&_, cond}
 use mathlib.Core.List.{List, [], _∷_}
 use mathlib.Core.Option.{none, some}
-use Prim.Native.Nat.{ℕ, zero, suc, _+_, _-_, _%_, _≤_, _<_}
+use Prim.Native.Nat.{ℕ, zero, suc, _+_, _*_, _-_, _%_, _≤_, _<_}
 use lib.Dec.{leb, eqb}
 use lib.ListN.{length, take, drop, getD}
 use Rattle.cgx_spec.specs.declared.Offset.{Offset}
@@ -86,6 +86,10 @@ reads zero f (seen v p) = record { views = []; last = refusedAt 0 Nowhere }
 reads (suc n) f (seen v p) = andThen v (reads n f (stepOf f p))
 
 -- ---- a record by its offset and size
+
+-- The size that the bytes at an offset say.
+abbrev pub sizeAt : List ℕ → ℕ → ℕ
+sizeAt f at = getD f at 0 * 256 + getD f (at + 1) 0
 
 -- The record of n bytes at an offset.
 unfoldable pub recAt : List ℕ → ℕ → ℕ → Rec

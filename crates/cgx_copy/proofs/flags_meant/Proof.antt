@@ -1,5 +1,4 @@
 -- `cgx_copy::flags_meant` is right: each arm gives what the definition says of its kind. Assumes nothing.
-use Rattle.cgx_spec.specs.Kinds.{flagsFor, meant, flagsOf}
 use borrow.Author.Needs.{needs}
 use Rattle.cgx_copy.proofs.flags_meant.Statement.{statement}
 use Rattle.cgx_copy.proofs.flags_meant.Tie as tie
@@ -41,47 +40,36 @@ enum-told-11 : tie.Need-enum-told-11
 enum-told-11 c = search needs
 
 returns : tie.Need-returns
-unfolding flagsOf flagsFor meant
 returns c = rw (c .enum-told .given .1)
 
 returns-2 : tie.Need-returns-2
-unfolding flagsOf flagsFor meant
 returns-2 c = rw (c .enum-told2 .given .1)
 
 returns-3 : tie.Need-returns-3
-unfolding flagsOf flagsFor meant
 returns-3 c = rw (c .enum-told3 .given .1)
 
 returns-4 : tie.Need-returns-4
-unfolding flagsOf flagsFor meant
 returns-4 c = rw (c .enum-told4 .given .1)
 
 returns-5 : tie.Need-returns-5
-unfolding flagsOf flagsFor meant
 returns-5 c = rw (c .enum-told5 .given .1)
 
 returns-6 : tie.Need-returns-6
-unfolding flagsOf flagsFor meant
 returns-6 c = rw (c .enum-told6 .given .1)
 
 returns-7 : tie.Need-returns-7
-unfolding flagsOf flagsFor meant
 returns-7 c = rw (c .enum-told7 .given .1)
 
 returns-8 : tie.Need-returns-8
-unfolding flagsOf flagsFor meant
 returns-8 c = rw (c .enum-told8 .given .1)
 
 returns-9 : tie.Need-returns-9
-unfolding flagsOf flagsFor
 returns-9 c = rw (c .before .enum-told9 .given .1) (c .text-flags .ensures)
 
 returns-10 : tie.Need-returns-10
-unfolding flagsOf flagsFor meant
 returns-10 c = rw (c .enum-told10 .given .1)
 
 returns-11 : tie.Need-returns-11
-unfolding flagsOf flagsFor meant
 returns-11 c = rw (c .enum-told11 .given .1)
 
 pub flags-meant-spec : {M : Type 1} → statement M

@@ -1,7 +1,7 @@
--- `cgx_copy::text_flags` is right: it computes as `meant` does, and no place grows, so that nothing wraps. Assumes nothing.
+-- `cgx_copy::text_flags` is right: it computes as `textFlags` does, and no place grows, so that nothing wraps. Assumes nothing.
 use mathlib.Core.Path.{ap, _∙_}
 use Prim.Native.Nat.{ℕ, _+_, _*_, _%_, _/_}
-use Rattle.cgx_spec.specs.Kinds.{textPlace, meant}
+use Rattle.cgx_spec.specs.Kinds.{textPlace, textFlags}
 use borrow.Author.Needs.{needs}
 use Rattle.cgx_copy.proofs.text_flags.Statement.{statement}
 use Rattle.cgx_copy.proofs.text_flags.Tie as tie
@@ -25,7 +25,7 @@ add-result-2 : tie.Need-add-result-2
 add-result-2 c = search needs
 
 returns : tie.Need-returns
-unfolding meant
+unfolding textFlags
 returns c =
     let fl = c .before .before .args .fl in
     ap (λ (x : ℕ). fl % 16 + 16 * x + 64 * c .text-place2 .result) (c .before .text-place .ensures .0)
