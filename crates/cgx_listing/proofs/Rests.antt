@@ -29,7 +29,7 @@ use Rattle.cgx_judge.specs.Judging.{placedBy, Here, Judges}
 use Rattle.cgx_judge.proofs.Asking.{Asked, asked-start, asked-ends, asked-stop, asked-go, judged-good}
 use Rattle.cgx_put.proofs.Puts.{put-length, put-is}
 use Rattle.cgx_listing.specs.Ascii.{ascii}
-use Rattle.cgx_listing.specs.Listing.{decimal, nameOf, nameEnd, line, lineOf, lastLine, linesOf, listingOf, lineIf, Listed, Stored}
+use Rattle.cgx_listing.specs.Listing.{decimal, nameEnd, line, lineOf, lastLine, linesOf, listingOf, lineIf, Listed, Stored}
 use Rattle.cgx_listing.proofs.Decimals.{decimal-short}
 use Rattle.cgx_listing.proofs.Lines.{both, named-so, stored-none}
 
@@ -58,7 +58,6 @@ not-begun f (suc k) e z = sym (ap (λ (n : ℕ). text (walk (length f) (opened n
 -- ---- how long a line can be
 
 name-short : (k : Kind) → length (nameEnd k) ≤ 10
-unfolding nameOf
 name-short Library = omega arith
 name-short Struct = omega arith
 name-short Cprpty = omega arith
