@@ -9,16 +9,19 @@ use lib.Dec.{T, leb, eqb, leb→le, eqb→eq}
 use lib.ListN.{length, take, drop, length-drop}
 use lib.Seq.{length-take-le}
 use Rattle.cgx_spec.specs.declared.Kind.{Kind}
-use Rattle.cgx_spec.specs.declared.Kind.the-variants.{Library, Struct, Cprpty, Property, Layer, Box, Poly, Wire, Text}
+use Rattle.cgx_spec.specs.declared.Kind.the-variants.{Library, Struct, Cprpty, Property, Layer, Box, Poly, Wire, Text, Endlib}
 use Rattle.cgx_spec.specs.Strings.{goodString}
-use Rattle.cgx_spec.specs.Fields.{optional, width, ruleOf, good, Piece, pieces, lengthsFit, keeps, values}
+use Rattle.cgx_spec.specs.Fields.{optional, value, width, ruleOf, good, Piece, pieces, lengthsFit, keeps, values}
 use Rattle.cgx_spec.specs.Kinds.{layout}
 use Rattle.cgx_spec.specs.Records.{Rec, piecesOf}
 use Rattle.cgx_spec.specs.Walking.{Held, recAt}
 use Rattle.cgx_spec.specs.Restated.{goodSize}
 use Rattle.cgx_spec.proofs.Lists.{T→true, true→T, and-left, and-right}
 use Rattle.cgx_spec.proofs.Sizes.{sizes-agree}
-use Rattle.cgx_views.specs.Views.{Readable, piecesAt, valuesAt, StringAt, OptionalAt}
+use Rattle.cgx_kinds.specs.declared.Fields.{Fields}
+use Rattle.cgx_kinds.specs.declared.Fields.the-variants as fields
+use Rattle.cgx_kinds.specs.Meant.{fieldValues, fieldsKind}
+use Rattle.cgx_views.specs.Views.{Readable, FieldsAt, ReadAt, piecesAt, valuesAt, StringAt, OptionalAt}
 use Rattle.cgx_views.proofs.Cuts.{cut}
 use Rattle.cgx_views.proofs.Texts.{two-at-least}
 
@@ -41,6 +44,10 @@ module _ {k : Kind} {fl : ℕ} {f : List ℕ} {at size : ℕ} (r : Readable k fl
   pub meant-at : valuesAt k fl f at size ≡ values (pieces (layout k fl) (recAt f at size .body))
   unfolding recAt valuesAt
   meant-at = ap values (sym body-cut)
+
+  -- fields that are read by their offsets are those of its body
+  pub read-as : {j : Kind} {fs : Fields} → k ≡ j → ReadAt j fl f at size fs → (fieldValues f fs ≡ values (pieces (layout k fl) (recAt f at size .body))) × ((fieldsKind fs ≡ k) × FieldsAt fl f at (at + size) fs)
+  read-as {fs = fs} e d = let q = subst (λ (x : Kind). ReadAt x fl f at size fs) (sym e) d in (q .meant ∙ meant-at, (q .kind-is, q .stands))
 
   pub texts-kept : T (keeps 11 (piecesAt f at size (layout k fl) 4))
   unfolding recAt
@@ -131,3 +138,9 @@ module _ {fl : ℕ} {f : List ℕ} {at size : ℕ} where
   pub wire-ready : Readable Wire fl f at size → (8 ≤ size) × (at + size ≤ length f) × ((size - 8) % 8 ≡ 0)
   unfolding goodSize
   wire-ready r = let z = repeated-is 8 8 1 8190 size (sized r) in (omega (arith, z .0), r .held .inside, z .1)
+
+-- ---- an ENDLIB
+
+pub endlib-read : (fl : ℕ) (f : List ℕ) (at size : ℕ) → ReadAt Endlib fl f at size fields.Endlib
+unfolding FieldsAt fieldValues fieldsKind valuesAt layout piecesAt values value
+endlib-read fl f at size = record { meant = refl; kind-is = refl; stands = tt }

@@ -1,6 +1,6 @@
--- The fields of an SREF by its flags: eight cases, in which each field stands where `magnifOffset`, `arrayOffset` and `nameOffset` say. Assumes nothing.
+-- The fields of an SREF by its flags: eight cases, in which each field is where `srefLayout` says. Assumes nothing.
 use mathlib.Core.Path.{_≡_, refl, sym, ap, _∙_, subst}
-use mathlib.Core.Bool.{Bool, true, false, not, cond}
+use mathlib.Core.Bool.{Bool, true, false, cond}
 use mathlib.Core.List.{List, [], _∷_}
 use Prim.Native.Nat.{ℕ, _+_, _-_, _≤_}
 use native.Mathlib.Omega.{arith}
@@ -20,7 +20,9 @@ use Rattle.cgx_kinds.specs.declared.OptionalReal.{OptionalReal}
 use Rattle.cgx_kinds.specs.declared.Array.{Array}
 use Rattle.cgx_kinds.specs.declared.Fields.the-variants.{Sref}
 use Rattle.cgx_kinds.specs.Meant.{one, spanText, optionalValue, arrayValues, fieldValues, fieldsKind}
-use Rattle.cgx_views.specs.Views.{Readable, SpanAt, FieldsAt, ReadAt, piecesAt, valuesAt, StringAt, magnifOffset, arrayOffset, nameOffset, srefName, AnswerAt, realIf, arrayIf, ArrayIs}
+use Rattle.cgx_sref.specs.declared.SrefLayout.{SrefLayout}
+use Rattle.cgx_sref.specs.Layouts.{magnifOffset, arrayOffset, nameOffset, srefLayout, Laid}
+use Rattle.cgx_views.specs.Views.{Readable, SpanAt, FieldsAt, ReadAt, piecesAt, valuesAt, StringAt, AnswerAt, realIf, arrayIf, ArrayIs}
 use Rattle.cgx_views.proofs.Parts.{_then_, long-value, second-value}
 use Rattle.cgx_views.proofs.Ready.{sized, texts-kept, string-from}
 
@@ -70,7 +72,7 @@ least-size false true false = refl
 least-size false false true = refl
 least-size false false false = refl
 
-pub sref-ready : {fl : ℕ} {f : List ℕ} {at size : ℕ} → Readable sref fl f at size → StringAt f (at + srefName fl) (size - srefName fl)
+pub sref-ready : {fl : ℕ} {f : List ℕ} {at size : ℕ} → Readable sref fl f at size → StringAt f (at + srefLayout fl .name) (size - srefLayout fl .name)
 unfolding goodSize layout
 sref-ready {fl} {f} {at} {size} r =
     let a = angle fl in
@@ -78,74 +80,36 @@ sref-ready {fl} {f} {at} {size} r =
     let y = array fl in
     string-from (nameOffset a m y) (r .held) (subst (λ (n : ℕ). n ≤ size) (least-size a m y) (leb→le (4 + 8 + cond a 8 0 + cond m 8 0 + cond y 24 0 + 2) size (sized r))) (name-good f at size a m y (texts-kept r))
 
--- ---- with the offsets that code has computed
+-- ---- with the layout that code has worked out
 
-never : {A : Type 0} → false ≡ true → A
-never q = absurd (subst (λ (v : Bool). T (not v)) q tt)
+-- the layout of these flags, and all of it inside the file
+pub record Room (fl : ℕ) (f : List ℕ) (at size : ℕ) (l : SrefLayout) : Type 0 where
+  pub is : l ≡ srefLayout fl
+  pub laid : Laid l
+  pub name : StringAt f (at + l .name) (size - l .name)
 
--- where the next field begins, w bytes behind o or at o
-pub after-is : (v : Bool) (o w : ℕ) {x : ℕ} → x ≡ cond v (o + w) o → (o ≤ x) × (x ≤ o + w) × (v ≡ true → o + w ≤ x)
-after-is true o w e = (omega arith, omega arith, λ q. omega arith)
-after-is false o w e = (omega arith, omega arith, never)
+pub sref-room : (fl : ℕ) (f : List ℕ) (at size : ℕ) {l : SrefLayout} → StringAt f (at + srefLayout fl .name) (size - srefLayout fl .name) → (l ≡ srefLayout fl) × Laid l → Room fl f at size l
+sref-room fl f at size s e = record { is = e .0; laid = e .1; name = subst (λ (x : SrefLayout). StringAt f (at + x .name) (size - x .name)) (sym (e .0)) s }
 
--- the magnif stands at x, the array at g, the name at n, one behind another and all of them inside the file
-pub record Room (fl : ℕ) (f : List ℕ) (at size x g n : ℕ) : Type 0 where
-  pub second-is : x ≡ magnifOffset (angle fl)
-  pub third-is : g ≡ arrayOffset (angle fl) (magnif fl)
-  pub last-is : n ≡ srefName fl
-  pub name : StringAt f (at + n) (size - n)
-  pub first : 12 ≤ x
-  pub second : x ≤ g
-  pub third : g ≤ n
-  pub last : n ≤ 52
-  pub ending : n + 2 ≤ size
-  pub inside : at + size ≤ length f
-  pub angle-in : angle fl ≡ true → 20 ≤ n
-  pub magnif-in : magnif fl ≡ true → x + 8 ≤ n
-  pub array-in : array fl ≡ true → g + 24 ≤ n
-
-module _ (fl : ℕ) (f : List ℕ) (at size : ℕ) (s : StringAt f (at + srefName fl) (size - srefName fl)) {x g n : ℕ} where
-  pub sref-room : x ≡ cond (angle fl) 20 12 → g ≡ cond (magnif fl) (x + 8) x → n ≡ cond (array fl) (g + 24) g → Room fl f at size x g n
-  sref-room ex eg en =
-      let t : g ≡ arrayOffset (angle fl) (magnif fl) = eg ∙ ap (λ (k : ℕ). cond (magnif fl) (k + 8) k) ex in
-      let l : n ≡ srefName fl = en ∙ ap (λ (k : ℕ). cond (array fl) (k + 24) k) t in
-      let q : StringAt f (at + n) (size - n) = subst (λ (k : ℕ). StringAt f (at + k) (size - k)) (sym l) s in
-      let i = q .inside in
-      let e = q .least in
-      let a = after-is (angle fl) 12 8 ex in
-      let m = after-is (magnif fl) x 8 eg in
-      let r = after-is (array fl) g 24 en in
-      record {
-        second-is = ex;
-        third-is = t;
-        last-is = l;
-        name = q;
-        first = omega arith;
-        second = omega arith;
-        third = omega arith;
-        last = omega arith;
-        ending = omega arith;
-        inside = omega arith;
-        angle-in = λ q. omega (arith, a .2 q);
-        magnif-in = λ q. omega (arith, m .2 q);
-        array-in = λ q. omega (arith, r .2 q);
-      }
-
-pub sref-by : {fl : ℕ} {f : List ℕ} {at size x g n : ℕ} → Room fl f at size x g n → (p : Point) (a b : OptionalReal) (d : Array) (t : Span)
+pub sref-by : {fl : ℕ} {f : List ℕ} {at size : ℕ} {l : SrefLayout} → Room fl f at size l → (p : Point) (a b : OptionalReal) (d : Array) (t : Span)
     → (p .x ≡ longOf (take 4 (drop (at + 4) f))) × (p .y ≡ longOf (take 4 (drop (at + 4 + 4) f)))
-    → (optionalValue a ≡ realIf (angle fl) f (at + 12)) × AnswerAt f (at + 12) a → (optionalValue b ≡ realIf (magnif fl) f (at + x)) × AnswerAt f (at + x) b → ArrayIs (array fl) f at g d
-    → (spanText f t ≡ value string (take (size - n) (drop (at + n) f))) × SpanAt (at + n) (at + n + (size - n)) t
+    → (optionalValue a ≡ realIf (l .turned) f (at + 12)) × AnswerAt f (at + 12) a → (optionalValue b ≡ realIf (l .scaled) f (at + l .magnif)) × AnswerAt f (at + l .magnif) b → ArrayIs (l .repeated) f at (l .array) d
+    → (spanText f t ≡ value string (take (size - l .name) (drop (at + l .name) f))) × SpanAt (at + l .name) (at + l .name + (size - l .name)) t
     → ReadAt sref fl f at size (Sref (record { at = p; angle = a; magnif = b; array = d; name = t }))
 unfolding FieldsAt fieldValues fieldsKind valuesAt layout
-sref-by {fl} {f} {at} {size} h p a b d t ep ea eb ed et =
-    let last = value string (tail f at size (srefName fl)) ∷ missing ∷ [] in
+sref-by {fl} {f} {at} {size} {l} h p a b d t ep ea eb ed et =
+    let i = h .name .inside in
+    let e = h .name .least in
+    let o = h .laid in
+    let q = h .is in
+    let last : SrefLayout → List Value = λ (x : SrefLayout). value string (tail f at size (x .name)) ∷ missing ∷ [] in
     record {
       kind-is = refl;
-      stands = (ea .1, subst (λ (k : ℕ). AnswerAt f (at + k) b) (h .second-is) (eb .1), (et .1 .0 ∙ ap (λ (k : ℕ). at + k) (h .last-is), omega arith));
+      stands = (ea .1, subst (λ (x : SrefLayout). AnswerAt f (at + x .magnif) b) q (eb .1), (et .1 .0 ∙ ap (λ (x : SrefLayout). at + x .name) q, omega arith));
       meant =
-          (long-value f (at + 4) (omega arith) (ep .0) then second-value f (at + 4) (at + 8) (omega arith) (omega arith) (ep .1) then ea .0
-          then (eb .0 ∙ ap (λ (k : ℕ). realIf (magnif fl) f (at + k)) (h .second-is))
-          then (ap (λ (v : Value). arrayValues d (v ∷ missing ∷ [])) (et .0 ∙ ap (λ (k : ℕ). value string (tail f at size k)) (h .last-is)) ∙ ed last
-          ∙ ap (λ (k : ℕ). arrayIf (array fl) f at k last) (h .third-is)))
+          (long-value f (at + 4) (omega arith) (ep .0) then second-value f (at + 4) (at + 8) (omega arith) (omega arith) (ep .1)
+          then (ea .0 ∙ ap (λ (x : SrefLayout). realIf (x .turned) f (at + 12)) q)
+          then (eb .0 ∙ ap (λ (x : SrefLayout). realIf (x .scaled) f (at + x .magnif)) q)
+          then (ap (λ (v : Value). arrayValues d (v ∷ missing ∷ [])) (et .0) ∙ ed (last l) ∙ ap (λ (x : SrefLayout). arrayIf (x .repeated) f at (x .array) (last x)) q))
           ∙ sym (by-flags f at size (angle fl) (magnif fl) (array fl));
     }

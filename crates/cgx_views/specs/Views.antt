@@ -10,7 +10,7 @@ use Rattle.cgx_spec.specs.Numbers.{number, longsOf}
 use Rattle.cgx_spec.specs.Reals.{answer}
 use Rattle.cgx_spec.specs.Strings.{goodString}
 use Rattle.cgx_spec.specs.Fields.{Field, real, absent, Value, missing, numbers, value, width, Piece, pieces, lengthsFit, keeps, values}
-use Rattle.cgx_spec.specs.Kinds.{angle, magnif, array, layout}
+use Rattle.cgx_spec.specs.Kinds.{layout}
 use Rattle.cgx_spec.specs.Walking.{Held, recAt}
 use Rattle.cgx_kinds.specs.declared.Span.{Span}
 use Rattle.cgx_kinds.specs.declared.Name.{Name}
@@ -21,6 +21,7 @@ use Rattle.cgx_kinds.specs.declared.OptionalReal.the-variants.{Missing, Given}
 use Rattle.cgx_kinds.specs.declared.Array.{Array}
 use Rattle.cgx_kinds.specs.declared.Fields.{Fields}
 use Rattle.cgx_kinds.specs.declared.Fields.the-variants.{Library, Struct, Cprpty, Property, Layer, Box, Poly, Wire, Text, Sref, Endlib}
+use Rattle.cgx_sref.specs.Layouts.{srefLayout}
 use Rattle.cgx_kinds.specs.Meant.{arrayValues, fieldValues, fieldsKind}
 
 -- A record whose fields have lengths that they may have (rule 8), and whose strings are good (rule 11).
@@ -40,20 +41,6 @@ piecesAt f at size (x ∷ xs) o =
 -- Their values, behind the four bytes of the header.
 unfoldable pub valuesAt : Kind → ℕ → List ℕ → ℕ → ℕ → List Value
 valuesAt k fl f at size = values (piecesAt f at size (layout k fl) 4)
-
--- ---- an SREF: the angle stands 12 bytes on, what follows behind what stands before it
-
-abbrev pub magnifOffset : Bool → ℕ
-magnifOffset a = cond a 20 12
-
-abbrev pub arrayOffset : Bool → Bool → ℕ
-arrayOffset a m = cond m (magnifOffset a + 8) (magnifOffset a)
-
-abbrev pub nameOffset : Bool → Bool → Bool → ℕ
-nameOffset a m r = cond r (arrayOffset a m + 24) (arrayOffset a m)
-
-abbrev pub srefName : ℕ → ℕ
-srefName fl = nameOffset (angle fl) (magnif fl) (array fl)
 
 -- ---- where fields stand: a text or a list begins at byte b, where its field does, and ends at byte e or before; a real is the answer of its own eight bytes
 
@@ -86,7 +73,7 @@ FieldsAt fl f at e (Box b) = RepeatAt 16 (at + 4) e (b .boxes)
 FieldsAt fl f at e (Poly p) = RepeatAt 8 (at + 4) e (p .points)
 FieldsAt fl f at e (Wire w) = RepeatAt 8 (at + 8) e (w .points)
 FieldsAt fl f at e (Text t) = SpanAt (at + 16) e (t .label)
-FieldsAt fl f at e (Sref s) = AnswerAt f (at + 12) (s .angle) × AnswerAt f (at + magnifOffset (angle fl)) (s .magnif) × SpanAt (at + srefName fl) e (s .name)
+FieldsAt fl f at e (Sref s) = AnswerAt f (at + 12) (s .angle) × AnswerAt f (at + srefLayout fl .magnif) (s .magnif) × SpanAt (at + srefLayout fl .name) e (s .name)
 FieldsAt fl f at e Endlib = Unit {0}
 
 -- What the reader of a kind answers.

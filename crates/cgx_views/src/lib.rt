@@ -25,8 +25,9 @@ use cgx_numbers::short_at;
 use cgx_reals::read_real;
 use cgx_spec::Kind;
 use cgx_spec::Real;
+use cgx_sref::sref_layout;
 ghost use mathlib.Core.Path.{_≡_};
-ghost use mathlib.Core.Bool.{true, cond};
+ghost use mathlib.Core.Bool.{true};
 ghost use Prim.Native.Nat.{_+_, _-_, _*_, _%_, _≤_, _<_};
 ghost use lib.ListN.{length, take, drop};
 ghost use Rattle.cgx_spec.specs.Numbers.{longOf};
@@ -34,7 +35,8 @@ ghost use Rattle.cgx_spec.specs.Fields.{date, string, optional, value, pieces, 
 ghost use Rattle.cgx_spec.specs.Kinds.{layout};
 ghost use Rattle.cgx_spec.specs.Walking.{recAt};
 ghost use Rattle.cgx_kinds.specs.Meant.{spanText, nameText, dateNumbers, optionalValue, fieldValues, fieldsKind};
-ghost use Rattle.cgx_views.specs.Views.{Readable, FieldsAt, ReadAt, ReadAlike, SpanAt, NameAt, realAt, AnswerAt, StringAt, OptionalAt, srefName, realIf, ArrayIs};
+ghost use Rattle.cgx_sref.specs.Layouts.{srefLayout};
+ghost use Rattle.cgx_views.specs.Views.{Readable, FieldsAt, ReadAt, ReadAlike, SpanAt, NameAt, realAt, AnswerAt, StringAt, OptionalAt, realIf, ArrayIs};
 
 // The fields of the record of `size` bytes at `at`, of this kind and with these flags.
 pub fn fields_of(f: &[u8], k: Kind, fl: u8, at: usize, size: usize) -> Fields
@@ -44,148 +46,143 @@ pub fn fields_of(f: &[u8], k: Kind, fl: u8, at: usize, size: usize) -> Fields
     ensures stands { λ r. ⌜ FieldsAt fl (now (f .entry)) at (at + size) r ⌝ }
 {
     match k {
-        Kind::Library => library_of(f, at, size),
-        Kind::Struct => struct_of(f, at, size),
-        Kind::Cprpty => cprpty_of(f, at, size),
-        Kind::Property => property_of(f, at, size),
-        Kind::Layer => layer_of(f, at, size),
-        Kind::Box => box_of(f, at, size),
-        Kind::Poly => poly_of(f, at, size),
-        Kind::Wire => wire_of(f, at, size),
-        Kind::Text => text_of(f, at, size),
-        Kind::Sref => sref_of(f, fl, at, size),
+        Kind::Library => Fields::Library(library_of(f, at, size)),
+        Kind::Struct => Fields::Struct(struct_of(f, at, size)),
+        Kind::Cprpty => Fields::Cprpty(cprpty_of(f, at, size)),
+        Kind::Property => Fields::Property(property_of(f, at, size)),
+        Kind::Layer => Fields::Layer(layer_of(f, at, size)),
+        Kind::Box => Fields::Box(box_of(f, at, size)),
+        Kind::Poly => Fields::Poly(poly_of(f, at, size)),
+        Kind::Wire => Fields::Wire(wire_of(f, at, size)),
+        Kind::Text => Fields::Text(text_of(f, at, size)),
+        Kind::Sref => Fields::Sref(sref_of(f, fl, at, size)),
         Kind::Endlib => Fields::Endlib,
     }
 }
 
 // ---- a kind each
 
-fn library_of(f: &[u8], at: usize, size: usize) -> Fields
+pub fn library_of(f: &[u8], at: usize, size: usize) -> Library
     requires { ⌜ StringAt (now f) (at + 36) (size - 36) ⌝ }
-    ensures { λ r. ⌜ ReadAlike Kind.Library (now (f .entry)) at size r ⌝ }
+    ensures { λ r. ⌜ ReadAlike Kind.Library (now (f .entry)) at size (Fields.Library r) ⌝ }
 {
     let munit = real_at(f, at + 4);
     let uunit = real_at(f, at + 12);
     let created = date_at(f, at + 20);
     let modified = date_at(f, at + 28);
     let name = text_at(f, at + 36, size - 36);
-    Fields::Library(Library {
+    Library {
         munit,
         uunit,
         created,
         modified,
         name,
-    })
+    }
 }
 
-fn struct_of(f: &[u8], at: usize, size: usize) -> Fields
+pub fn struct_of(f: &[u8], at: usize, size: usize) -> Struct
     requires { ⌜ StringAt (now f) (at + 20) (size - 20) ⌝ }
-    ensures { λ r. ⌜ ReadAlike Kind.Struct (now (f .entry)) at size r ⌝ }
+    ensures { λ r. ⌜ ReadAlike Kind.Struct (now (f .entry)) at size (Fields.Struct r) ⌝ }
 {
     let created = date_at(f, at + 4);
     let modified = date_at(f, at + 12);
     let name = text_at(f, at + 20, size - 20);
-    Fields::Struct(Struct {
+    Struct {
         created,
         modified,
         name,
-    })
+    }
 }
 
-fn cprpty_of(f: &[u8], at: usize, size: usize) -> Fields
+pub fn cprpty_of(f: &[u8], at: usize, size: usize) -> Cprpty
     requires { ⌜ StringAt (now f) (at + 8) (size - 8) ⌝ }
-    ensures { λ r. ⌜ ReadAlike Kind.Cprpty (now (f .entry)) at size r ⌝ }
+    ensures { λ r. ⌜ ReadAlike Kind.Cprpty (now (f .entry)) at size (Fields.Cprpty r) ⌝ }
 {
     let number = long_at(f, at + 4);
     let value = text_at(f, at + 8, size - 8);
-    Fields::Cprpty(Cprpty { number, value })
+    Cprpty { number, value }
 }
 
-fn property_of(f: &[u8], at: usize, size: usize) -> Fields
+pub fn property_of(f: &[u8], at: usize, size: usize) -> Property
     requires { ⌜ StringAt (now f) (at + 8) (size - 8) ⌝ }
-    ensures { λ r. ⌜ ReadAlike Kind.Property (now (f .entry)) at size r ⌝ }
+    ensures { λ r. ⌜ ReadAlike Kind.Property (now (f .entry)) at size (Fields.Property r) ⌝ }
 {
     let number = long_at(f, at + 4);
     let value = text_at(f, at + 8, size - 8);
-    Fields::Property(Property { number, value })
+    Property { number, value }
 }
 
-fn layer_of(f: &[u8], at: usize, size: usize) -> Fields
+pub fn layer_of(f: &[u8], at: usize, size: usize) -> Layer
     requires { ⌜ (8 ≤ size) × OptionalAt (now f) (at + 8) (size - 8) ⌝ }
-    ensures { λ r. ⌜ ReadAlike Kind.Layer (now (f .entry)) at size r ⌝ }
+    ensures { λ r. ⌜ ReadAlike Kind.Layer (now (f .entry)) at size (Fields.Layer r) ⌝ }
 {
     let number = short_at(f, at + 4);
     let datatype = short_at(f, at + 6);
     let name = name_at(f, at + 8, size - 8);
-    Fields::Layer(Layer {
+    Layer {
         number: LayerNo(number),
         datatype: DataType(datatype),
         name,
-    })
+    }
 }
 
-fn box_of(f: &[u8], at: usize, size: usize) -> Fields
+pub fn box_of(f: &[u8], at: usize, size: usize) -> Boxes
     requires { ⌜ (4 ≤ size) × (at + size ≤ length (now f)) × ((size - 4) % 16 ≡ 0) ⌝ }
-    ensures { λ r. ⌜ ReadAlike Kind.Box (now (f .entry)) at size r ⌝ }
+    ensures { λ r. ⌜ ReadAlike Kind.Box (now (f .entry)) at size (Fields.Box r) ⌝ }
 {
     let boxes = repeat_of(at + 4, size - 4, Boxes::BOX_SIZE);
-    Fields::Box(Boxes { boxes })
+    Boxes { boxes }
 }
 
-fn poly_of(f: &[u8], at: usize, size: usize) -> Fields
+pub fn poly_of(f: &[u8], at: usize, size: usize) -> Poly
     requires { ⌜ (4 ≤ size) × (at + size ≤ length (now f)) × ((size - 4) % 8 ≡ 0) ⌝ }
-    ensures { λ r. ⌜ ReadAlike Kind.Poly (now (f .entry)) at size r ⌝ }
+    ensures { λ r. ⌜ ReadAlike Kind.Poly (now (f .entry)) at size (Fields.Poly r) ⌝ }
 {
     let points = repeat_of(at + 4, size - 4, Poly::PAIR_SIZE);
-    Fields::Poly(Poly { points })
+    Poly { points }
 }
 
-fn wire_of(f: &[u8], at: usize, size: usize) -> Fields
+pub fn wire_of(f: &[u8], at: usize, size: usize) -> Wire
     requires { ⌜ (8 ≤ size) × (at + size ≤ length (now f)) × ((size - 8) % 8 ≡ 0) ⌝ }
-    ensures { λ r. ⌜ ReadAlike Kind.Wire (now (f .entry)) at size r ⌝ }
+    ensures { λ r. ⌜ ReadAlike Kind.Wire (now (f .entry)) at size (Fields.Wire r) ⌝ }
 {
     let width = long_at(f, at + 4);
     let points = repeat_of(at + 8, size - 8, Wire::PAIR_SIZE);
-    Fields::Wire(Wire { width, points })
+    Wire { width, points }
 }
 
-fn text_of(f: &[u8], at: usize, size: usize) -> Fields
+pub fn text_of(f: &[u8], at: usize, size: usize) -> Text
     requires { ⌜ StringAt (now f) (at + 16) (size - 16) ⌝ }
-    ensures { λ r. ⌜ ReadAlike Kind.Text (now (f .entry)) at size r ⌝ }
+    ensures { λ r. ⌜ ReadAlike Kind.Text (now (f .entry)) at size (Fields.Text r) ⌝ }
 {
     let anchor = point_at(f, at + 4);
     let width = long_at(f, at + 12);
     let label = text_at(f, at + 16, size - 16);
-    Fields::Text(Text {
+    Text {
         at: anchor,
         width,
         label,
-    })
+    }
 }
 
-// An angle stands if flag 1 does, a magnif if 2, an array if 8; what follows is that much further on.
-fn sref_of(f: &[u8], fl: u8, at: usize, size: usize) -> Fields
-    requires { ⌜ StringAt (now f) (at + srefName fl) (size - srefName fl) ⌝ }
-    ensures { λ r. ⌜ ReadAt Kind.Sref fl (now (f .entry)) at size r ⌝ }
+// Each field that its flags say is there is read right after those before it.
+pub fn sref_of(f: &[u8], fl: u8, at: usize, size: usize) -> Sref
+    requires { ⌜ StringAt (now f) (at + srefLayout fl .name) (size - srefLayout fl .name) ⌝ }
+    ensures { λ r. ⌜ ReadAt Kind.Sref fl (now (f .entry)) at size (Fields.Sref r) ⌝ }
 {
-    let turned = fl % 2 == 1;
-    let scaled = fl / 2 % 2 == 1;
-    let repeated = fl / 8 % 2 == 1;
-    let second = after(turned, 12, Sref::REAL_SIZE);
-    let third = after(scaled, second, Sref::REAL_SIZE);
-    let last = after(repeated, third, Sref::ARRAY_SIZE);
+    let l = sref_layout(fl);
     let anchor = point_at(f, at + 4);
-    let angle = real_if(f, at + 12, turned);
-    let magnif = real_if(f, at + second, scaled);
-    let array = array_if(f, at, third, repeated);
-    let name = text_at(f, at + last, size - last);
-    Fields::Sref(Sref {
+    let angle = real_if(f, at + 12, l.turned);
+    let magnif = real_if(f, at + l.magnif, l.scaled);
+    let array = array_if(f, at, l.array, l.repeated);
+    let name = text_at(f, at + l.name, size - l.name);
+    Sref {
         at: anchor,
         angle,
         magnif,
         array,
         name,
-    })
+    }
 }
 
 // ---- fields
@@ -254,32 +251,24 @@ fn repeat_of(first: usize, len: usize, unit: usize) -> Repeat
     }
 }
 
-// ---- fields of an SREF that may not stand
+// ---- fields that an SREF may not have
 
-// Where the next field begins: w bytes on, if this one stands.
-fn after(stands: bool, o: usize, w: usize) -> usize
-    requires { ⌜ (o ≤ 100) × (w ≤ 100) ⌝ }
-    ensures { λ r. ⌜ r ≡ cond stands (o + w) o ⌝ }
+fn real_if(f: &[u8], at: usize, there: bool) -> OptionalReal
+    requires { ⌜ (there ≡ true → at + 8 ≤ length (now f)) ⌝ }
+    ensures { λ r. ⌜ (optionalValue r ≡ realIf there (now (f .entry)) at) × AnswerAt (now (f .entry)) at r ⌝ }
 {
-    if stands { o + w } else { o }
-}
-
-fn real_if(f: &[u8], at: usize, stands: bool) -> OptionalReal
-    requires { ⌜ (stands ≡ true → at + 8 ≤ length (now f)) ⌝ }
-    ensures { λ r. ⌜ (optionalValue r ≡ realIf stands (now (f .entry)) at) × AnswerAt (now (f .entry)) at r ⌝ }
-{
-    if stands {
+    if there {
         return OptionalReal::Given(real_at(f, at));
     }
     OptionalReal::Missing
 }
 
 // From byte o of the record at `at` on.
-fn array_if(f: &[u8], at: usize, o: usize, stands: bool) -> Array
-    requires { ⌜ (o ≤ 100) × (stands ≡ true → at + (o + 24) ≤ length (now f)) ⌝ }
-    ensures { λ r. ⌜ ArrayIs stands (now (f .entry)) at o r ⌝ }
+fn array_if(f: &[u8], at: usize, o: usize, there: bool) -> Array
+    requires { ⌜ (o ≤ 100) × (there ≡ true → at + (o + 24) ≤ length (now f)) ⌝ }
+    ensures { λ r. ⌜ ArrayIs there (now (f .entry)) at o r ⌝ }
 {
-    if stands {
+    if there {
         let cols = long_at(f, at + o);
         let rows = long_at(f, at + (o + 4));
         let across = point_at(f, at + (o + 8));

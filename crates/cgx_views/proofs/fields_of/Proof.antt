@@ -1,11 +1,6 @@
 -- `cgx_views::fields_of` is right: a readable record of a kind has what the reader of that kind asks, and its fields by their offsets are those of its body. Assumes nothing.
-use mathlib.Core.Path.{sym, _∙_}
 use borrow.Author.Needs.{needs}
-use Rattle.cgx_spec.specs.Fields.{values, value}
-use Rattle.cgx_spec.specs.Kinds.{layout}
-use Rattle.cgx_kinds.specs.Meant.{fieldValues, fieldsKind}
-use Rattle.cgx_views.specs.Views.{FieldsAt, piecesAt, valuesAt}
-use Rattle.cgx_views.proofs.Ready.{told, meant-at, library-ready, struct-ready, cprpty-ready, property-ready, layer-ready, box-ready, poly-ready, wire-ready, text-ready}
+use Rattle.cgx_views.proofs.Ready.{told, read-as, library-ready, struct-ready, cprpty-ready, property-ready, layer-ready, box-ready, poly-ready, wire-ready, text-ready, endlib-read}
 use Rattle.cgx_views.proofs.Srefs.{sref-ready}
 use Rattle.cgx_views.proofs.fields_of.Statement.{statement}
 use Rattle.cgx_views.proofs.fields_of.Tie as tie
@@ -74,47 +69,37 @@ enum-told-11 : tie.Need-enum-told-11
 enum-told-11 c = search needs
 
 returns : tie.Need-returns
-unfolding valuesAt layout
-returns c = let r = told (c .before .enum-told .given .1) (c .before .before .before .before .pre) in (rw (c .before .enum-told .given .1) (c .library-of .ensures (c .before .before .before .before .args .fl) .meant ∙ meant-at r), (c .library-of .ensures (c .before .before .before .before .args .fl) .kind-is ∙ sym (c .before .enum-told .given .1), c .library-of .ensures (c .before .before .before .before .args .fl) .stands))
+returns c = read-as (c .before .before .before .before .pre) (c .before .enum-told .given .1) (c .library-of .ensures (c .before .before .before .before .args .fl))
 
 returns-2 : tie.Need-returns-2
-unfolding valuesAt layout
-returns-2 c = let r = told (c .before .enum-told2 .given .1) (c .before .before .before .before .pre) in (rw (c .before .enum-told2 .given .1) (c .struct-of .ensures (c .before .before .before .before .args .fl) .meant ∙ meant-at r), (c .struct-of .ensures (c .before .before .before .before .args .fl) .kind-is ∙ sym (c .before .enum-told2 .given .1), c .struct-of .ensures (c .before .before .before .before .args .fl) .stands))
+returns-2 c = read-as (c .before .before .before .before .pre) (c .before .enum-told2 .given .1) (c .struct-of .ensures (c .before .before .before .before .args .fl))
 
 returns-3 : tie.Need-returns-3
-unfolding valuesAt layout
-returns-3 c = let r = told (c .before .enum-told3 .given .1) (c .before .before .before .before .pre) in (rw (c .before .enum-told3 .given .1) (c .cprpty-of .ensures (c .before .before .before .before .args .fl) .meant ∙ meant-at r), (c .cprpty-of .ensures (c .before .before .before .before .args .fl) .kind-is ∙ sym (c .before .enum-told3 .given .1), c .cprpty-of .ensures (c .before .before .before .before .args .fl) .stands))
+returns-3 c = read-as (c .before .before .before .before .pre) (c .before .enum-told3 .given .1) (c .cprpty-of .ensures (c .before .before .before .before .args .fl))
 
 returns-4 : tie.Need-returns-4
-unfolding valuesAt layout
-returns-4 c = let r = told (c .before .enum-told4 .given .1) (c .before .before .before .before .pre) in (rw (c .before .enum-told4 .given .1) (c .property-of .ensures (c .before .before .before .before .args .fl) .meant ∙ meant-at r), (c .property-of .ensures (c .before .before .before .before .args .fl) .kind-is ∙ sym (c .before .enum-told4 .given .1), c .property-of .ensures (c .before .before .before .before .args .fl) .stands))
+returns-4 c = read-as (c .before .before .before .before .pre) (c .before .enum-told4 .given .1) (c .property-of .ensures (c .before .before .before .before .args .fl))
 
 returns-5 : tie.Need-returns-5
-unfolding valuesAt layout
-returns-5 c = let r = told (c .before .enum-told5 .given .1) (c .before .before .before .before .pre) in (rw (c .before .enum-told5 .given .1) (c .layer-of .ensures (c .before .before .before .before .args .fl) .meant ∙ meant-at r), (c .layer-of .ensures (c .before .before .before .before .args .fl) .kind-is ∙ sym (c .before .enum-told5 .given .1), c .layer-of .ensures (c .before .before .before .before .args .fl) .stands))
+returns-5 c = read-as (c .before .before .before .before .pre) (c .before .enum-told5 .given .1) (c .layer-of .ensures (c .before .before .before .before .args .fl))
 
 returns-6 : tie.Need-returns-6
-unfolding valuesAt layout
-returns-6 c = let r = told (c .before .enum-told6 .given .1) (c .before .before .before .before .pre) in (rw (c .before .enum-told6 .given .1) (c .box-of .ensures (c .before .before .before .before .args .fl) .meant ∙ meant-at r), (c .box-of .ensures (c .before .before .before .before .args .fl) .kind-is ∙ sym (c .before .enum-told6 .given .1), c .box-of .ensures (c .before .before .before .before .args .fl) .stands))
+returns-6 c = read-as (c .before .before .before .before .pre) (c .before .enum-told6 .given .1) (c .box-of .ensures (c .before .before .before .before .args .fl))
 
 returns-7 : tie.Need-returns-7
-unfolding valuesAt layout
-returns-7 c = let r = told (c .before .enum-told7 .given .1) (c .before .before .before .before .pre) in (rw (c .before .enum-told7 .given .1) (c .poly-of .ensures (c .before .before .before .before .args .fl) .meant ∙ meant-at r), (c .poly-of .ensures (c .before .before .before .before .args .fl) .kind-is ∙ sym (c .before .enum-told7 .given .1), c .poly-of .ensures (c .before .before .before .before .args .fl) .stands))
+returns-7 c = read-as (c .before .before .before .before .pre) (c .before .enum-told7 .given .1) (c .poly-of .ensures (c .before .before .before .before .args .fl))
 
 returns-8 : tie.Need-returns-8
-unfolding valuesAt layout
-returns-8 c = let r = told (c .before .enum-told8 .given .1) (c .before .before .before .before .pre) in (rw (c .before .enum-told8 .given .1) (c .wire-of .ensures (c .before .before .before .before .args .fl) .meant ∙ meant-at r), (c .wire-of .ensures (c .before .before .before .before .args .fl) .kind-is ∙ sym (c .before .enum-told8 .given .1), c .wire-of .ensures (c .before .before .before .before .args .fl) .stands))
+returns-8 c = read-as (c .before .before .before .before .pre) (c .before .enum-told8 .given .1) (c .wire-of .ensures (c .before .before .before .before .args .fl))
 
 returns-9 : tie.Need-returns-9
-unfolding valuesAt layout
-returns-9 c = let r = told (c .before .enum-told9 .given .1) (c .before .before .before .before .pre) in (rw (c .before .enum-told9 .given .1) (c .text-of .ensures (c .before .before .before .before .args .fl) .meant ∙ meant-at r), (c .text-of .ensures (c .before .before .before .before .args .fl) .kind-is ∙ sym (c .before .enum-told9 .given .1), c .text-of .ensures (c .before .before .before .before .args .fl) .stands))
+returns-9 c = read-as (c .before .before .before .before .pre) (c .before .enum-told9 .given .1) (c .text-of .ensures (c .before .before .before .before .args .fl))
 
 returns-10 : tie.Need-returns-10
-returns-10 c = let r = told (c .before .enum-told10 .given .1) (c .before .before .before .before .pre) in (rw (c .before .enum-told10 .given .1) (c .sref-of .ensures .meant ∙ meant-at r), (c .sref-of .ensures .kind-is ∙ sym (c .before .enum-told10 .given .1), c .sref-of .ensures .stands))
+returns-10 c = read-as (c .before .before .before .before .pre) (c .before .enum-told10 .given .1) (c .sref-of .ensures)
 
 returns-11 : tie.Need-returns-11
-unfolding FieldsAt fieldValues fieldsKind valuesAt layout piecesAt values value
-returns-11 c = let r = told (c .enum-told11 .given .1) (c .before .before .before .pre) in (rw (c .enum-told11 .given .1) (meant-at r), (sym (c .enum-told11 .given .1), tt))
+returns-11 c = let s = c .before .before .before in read-as (s .pre) (c .enum-told11 .given .1) (endlib-read (s .args .fl) (s .args .f .now) (s .args .at) (s .args .size))
 
 pub fields-of-spec : {M : Type 1} → statement M
 fields-of-spec =

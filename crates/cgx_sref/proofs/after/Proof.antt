@@ -1,8 +1,8 @@
--- `cgx_views::after` is right in each of its two branches. Assumes nothing.
+-- `cgx_sref::after` is right in each of its two branches. Assumes nothing.
 use mathlib.Core.Path.{refl}
 use borrow.Author.Needs.{needs}
-use Rattle.cgx_views.proofs.after.Statement.{statement}
-use Rattle.cgx_views.proofs.after.Tie as tie
+use Rattle.cgx_sref.proofs.after.Statement.{statement}
+use Rattle.cgx_sref.proofs.after.Tie as tie
 
 add-result : tie.Need-add-result
 add-result c = search needs

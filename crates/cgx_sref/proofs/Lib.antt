@@ -1,0 +1,2 @@
+-- `Laws`: where fields begin.
+pub mod Laws

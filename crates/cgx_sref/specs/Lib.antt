@@ -1,0 +1,2 @@
+-- The layout of an SREF.
+pub mod Layouts
