@@ -1,2 +1,3 @@
 -- Offsets and runs as numbers.
 pub mod Laws
+pub mod Sound

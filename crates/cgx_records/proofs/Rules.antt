@@ -1,6 +1,6 @@
 -- The rules 6 to 12 of a record, one after another. Assumes nothing.
-use mathlib.Core.Path.{_≡_, refl, sym, ap, ap₂, _∙_, subst}
-use mathlib.Core.Bool.{Bool, true, false, _&&_}
+use mathlib.Core.Path.{_≡_, refl, sym, ap, _∙_, subst}
+use mathlib.Core.Bool.{Bool, true, false}
 use mathlib.Core.List.{List, _∷_}
 use mathlib.Core.Option.{Option, none, some}
 use Prim.Native.Nat.{ℕ}
@@ -8,11 +8,8 @@ use native.Mathlib.Omega.{arith}
 use lib.Dec.{T}
 use Rattle.cgx_spec.specs.Fields.{pieces}
 use Rattle.cgx_spec.specs.Kinds.{goodFlags, layout}
-use Rattle.cgx_spec.specs.Order.{allowed}
 use Rattle.cgx_spec.specs.Records.{Rec, rule, rules, piecesOf, fieldRules, broken}
 use Rattle.cgx_spec.specs.declared.Kind.{Kind}
-use Rattle.cgx_spec.specs.declared.Context.{Context}
-use Rattle.cgx_spec.proofs.Lists.{and-true, and-assoc}
 use Rattle.cgx_bodies.specs.Bodies.{numberOr0, bodyFault}
 use Rattle.cgx_records.specs.Faults.{ruleFault}
 
@@ -23,12 +20,12 @@ first-6 true o r e = absurd (subst T e tt)
 first-6 false none r e = refl
 first-6 false (some k) r e = refl
 
--- so that a record that breaks no rule may stand where it does
+-- so that a record that breaks no rule is allowed where it is
 pub stood-by : (here : Bool) (o : Option Kind) (r : Rec) → 0 ≡ ruleFault here o r → here ≡ true
 stood-by true o r e = refl
 stood-by false o r e = absurd (let z = first-6 false o r refl in omega arith)
 
--- ---- the rules in turn, where the record may stand
+-- ---- the rules in turn, where rule 6 allows the record
 module _ (here : Bool) (h : here ≡ true) (k : Kind) (fl : ℕ) (b : List ℕ) (n : ℕ) where
   abbrev fault : Bool → Bool → ℕ
   fault x y = numberOr0 (broken (rule 6 x ∷ rule 7 y ∷ fieldRules (pieces (layout k fl) b)))
@@ -47,21 +44,3 @@ module _ (here : Bool) (h : here ≡ true) (k : Kind) (fl : ℕ) (b : List ℕ) 
 pub unknown-0 : {here : Bool} → here ≡ true → (r : Rec) → 0 ≡ ruleFault here none r
 unfolding rules broken
 unknown-0 h r = sym (ap (λ (x : Bool). ruleFault x none r) h)
-
--- an unknown record needs a LIBRARY before it
-pub unknown-needs : (c : Context) → c .library ≡ allowed c none
-unfolding allowed
-unknown-needs c = sym (and-true (c .library))
-
--- ---- needs, as `every` has them
-
-module _ (a : Bool) {b y : Bool} (q : b ≡ y) where
-  pub both : (a && b) ≡ (a && (y && true))
-  both = ap (λ (v : Bool). a && v) (q ∙ sym (and-true y))
-
-  pub three : {c z : Bool} → c ≡ z → (a && b && c) ≡ (a && (y && (z && true)))
-  three {c} {z} r = sym (and-assoc a b c) ∙ ap (λ (v : Bool). a && v) (ap₂ _&&_ q (r ∙ sym (and-true z)))
-
-  pub four : {c z : Bool} → c ≡ z → (d : Bool) → (a && b && c && d) ≡ (a && (y && (z && (d && true))))
-  four {c} {z} r d =
-      sym (and-assoc (a && b) c d) ∙ sym (and-assoc a b (c && d)) ∙ ap (λ (v : Bool). a && v) (ap₂ _&&_ q (ap₂ _&&_ r (sym (and-true d))))

@@ -1,12 +1,10 @@
--- The first rule that a record breaks, as a number; and what a context's run must leave room for. Definitions only.
+-- The first rule that a record breaks, as a number. Definitions only.
 use mathlib.Core.Bool.{Bool}
 use mathlib.Core.List.{List}
 use mathlib.Core.Option.{Option}
 use mathlib.Core.Path.{_≡_}
 use Prim.Native.Nat.{ℕ}
 use Rattle.cgx_spec.specs.declared.Kind.{Kind}
-use Rattle.cgx_spec.specs.declared.Run.{Run}
-use Rattle.cgx_spec.specs.declared.Run.the-variants.{Empty, Of}
 use Rattle.cgx_spec.specs.Records.{Rec, broken, rules}
 use Rattle.cgx_bodies.specs.Bodies.{numberOr0}
 
@@ -17,8 +15,3 @@ ruleFault here o r = numberOr0 (broken (rules here o r))
 -- Beside the kind the type byte does not matter.
 abbrev pub FaultIs : Bool → Option Kind → ℕ → List ℕ → ℕ → Type 0
 FaultIs here o fl b r = (n : ℕ) → r ≡ ruleFault here o (record { type = n; flags = fl; body = b })
-
--- How many PROPERTY records await their object.
-abbrev pub waiting : Run → ℕ
-waiting Empty = 0
-waiting (Of first count) = count

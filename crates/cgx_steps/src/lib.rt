@@ -1,13 +1,14 @@
-// One record of a file and the rules on it after a context: what the walk goes by. Who only judges goes by phases (cgx_judge).
+// One record of a file and the rules on it after a state: what the walk goes by. Who only judges goes by phases (cgx_judge).
 ghost use Prim.Native.Nat.{_≤_};
 ghost use lib.ListN.{length};
+ghost use Rattle.cgx_cursor.specs.Cursors.{contextIn};
 ghost use Rattle.cgx_steps.specs.Steps.{Steps};
+use cgx_cursor::State;
+use cgx_cursor::allows_type;
 use cgx_headers::Headed;
 use cgx_headers::Header;
 use cgx_headers::header_at;
-use cgx_records::may_follow;
 use cgx_records::record_fault;
-use cgx_spec::Context;
 use cgx_spec::Kind;
 use cgx_spec::Verdict;
 
@@ -17,11 +18,11 @@ pub enum Stepped {
     Go(Header),
 }
 
-pub fn step_at(s: &[u8], c: Context, at: usize) -> Stepped
+pub fn step_at(s: &[u8], state: State, at: usize) -> Stepped
     requires { ⌜ at ≤ length (now s) ⌝ }
-    ensures { λ r. ⌜ Steps (now (s .entry)) c at r ⌝ }
+    ensures { λ r. ⌜ Steps (now (s .entry)) (contextIn state) at r ⌝ }
 {
-    if c.ended {
+    if state.ended {
         if at == s.len() {
             return Stepped::Stop(Verdict::Accepted);
         }
@@ -32,7 +33,7 @@ pub fn step_at(s: &[u8], c: Context, at: usize) -> Stepped
         Headed::Bad(number) => Stepped::Stop(Verdict::Refused { number, at }),
         Headed::Good(h) => {
             let t = h.kind;
-            let here = may_follow(c, t);
+            let here = allows_type(state, t);
             let from = at + Kind::HEADER_SIZE;
             let to = at + h.size;
             let number = record_fault(here, t, h.flags, &s[from..to]);

@@ -1,4 +1,4 @@
--- What a readable record gives the reader of its kind: its size is one that the kind may have, its strings are good, and its fields stand at their offsets
+-- What a readable record gives the reader of its kind: its size is one that the kind may have, its strings are good, and its fields are at their offsets
 -- in the file. Assumes nothing.
 use mathlib.Core.Path.{_≡_, refl, sym, ap, _∙_, subst}
 use mathlib.Core.Bool.{Bool, true, _&&_}
@@ -47,7 +47,7 @@ module _ {k : Kind} {fl : ℕ} {f : List ℕ} {at size : ℕ} (r : Readable k fl
 
   -- fields that are read by their offsets are those of its body
   pub read-as : {j : Kind} {fs : Fields} → k ≡ j → ReadAt j fl f at size fs → (fieldValues f fs ≡ values (pieces (layout k fl) (recAt f at size .body))) × ((fieldsKind fs ≡ k) × FieldsAt fl f at (at + size) fs)
-  read-as {fs = fs} e d = let q = subst (λ (x : Kind). ReadAt x fl f at size fs) (sym e) d in (q .meant ∙ meant-at, (q .kind-is, q .stands))
+  read-as {fs = fs} e d = let q = subst (λ (x : Kind). ReadAt x fl f at size fs) (sym e) d in (q .meant ∙ meant-at, (q .kind-is, q .located))
 
   pub texts-kept : T (keeps 11 (piecesAt f at size (layout k fl) 4))
   unfolding recAt
@@ -97,10 +97,10 @@ module _ {fl : ℕ} {f : List ℕ} {at size : ℕ} where
 
 -- ---- a LAYER
 
-stands : (b : List ℕ) → (length b ≡ 0 → ⊥) → T (good optional b) → T (goodString b)
+given : (b : List ℕ) → (length b ≡ 0 → ⊥) → T (good optional b) → T (goodString b)
 unfolding good
-stands [] h t = absurd (h refl)
-stands (x ∷ b) h t = t
+given [] h t = absurd (h refl)
+given (x ∷ b) h t = t
 
 pub layer-ready : {fl : ℕ} {f : List ℕ} {at size : ℕ} → Readable Layer fl f at size → (8 ≤ size) × OptionalAt f (at + 8) (size - 8)
 unfolding goodSize layout piecesAt width keeps ruleOf
@@ -113,7 +113,7 @@ layer-ready {f = f} {at = at} {size = size} r =
       l,
       record {
         inside = omega arith;
-        named = λ z. let g = stands b (λ q. z (sym n ∙ q)) t in string-from 8 (r .held) (omega (arith, two-at-least b g)) g;
+        named = λ z. let g = given b (λ q. z (sym n ∙ q)) t in string-from 8 (r .held) (omega (arith, two-at-least b g)) g;
       },
     )
 
@@ -143,4 +143,4 @@ module _ {fl : ℕ} {f : List ℕ} {at size : ℕ} where
 
 pub endlib-read : (fl : ℕ) (f : List ℕ) (at size : ℕ) → ReadAt Endlib fl f at size fields.Endlib
 unfolding FieldsAt fieldValues fieldsKind valuesAt layout piecesAt values value
-endlib-read fl f at size = record { meant = refl; kind-is = refl; stands = tt }
+endlib-read fl f at size = record { meant = refl; kind-is = refl; located = tt }

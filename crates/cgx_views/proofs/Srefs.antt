@@ -105,7 +105,7 @@ sref-by {fl} {f} {at} {size} {l} h p a b d t ep ea eb ed et =
     let last : SrefLayout → List Value = λ (x : SrefLayout). value string (tail f at size (x .name)) ∷ missing ∷ [] in
     record {
       kind-is = refl;
-      stands = (ea .1, subst (λ (x : SrefLayout). AnswerAt f (at + x .magnif) b) q (eb .1), (et .1 .0 ∙ ap (λ (x : SrefLayout). at + x .name) q, omega arith));
+      located = (ea .1, subst (λ (x : SrefLayout). AnswerAt f (at + x .magnif) b) q (eb .1), (et .1 .0 ∙ ap (λ (x : SrefLayout). at + x .name) q, omega arith));
       meant =
           (long-value f (at + 4) (omega arith) (ep .0) then second-value f (at + 4) (at + 8) (omega arith) (omega arith) (ep .1)
           then (ea .0 ∙ ap (λ (x : SrefLayout). realIf (x .turned) f (at + 12)) q)

@@ -38,11 +38,11 @@ piecesAt f at size [] o = record { field = absent; bytes = take (size - o) (drop
 piecesAt f at size (x ∷ xs) o =
     record { field = x; bytes = take (width x (size - o)) (drop (at + o) f) } ∷ piecesAt f at size xs (o + width x (size - o))
 
--- Their values, behind the four bytes of the header.
+-- Their values, after the four bytes of the header.
 unfoldable pub valuesAt : Kind → ℕ → List ℕ → ℕ → ℕ → List Value
 valuesAt k fl f at size = values (piecesAt f at size (layout k fl) 4)
 
--- ---- where fields stand: a text or a list begins at byte b, where its field does, and ends at byte e or before; a real is the answer of its own eight bytes
+-- ---- where fields are: a text or a list begins at byte b, where its field does, and ends at byte e or before; a real is the answer of its own eight bytes
 
 abbrev pub SpanAt : ℕ → ℕ → Span → Type 0
 SpanAt b e s = (s .at ≡ b) × (s .at + s .len ≤ e)
@@ -79,10 +79,10 @@ FieldsAt fl f at e Endlib = Unit {0}
 -- What the reader of a kind answers.
 pub record ReadAt (k : Kind) (fl : ℕ) (f : List ℕ) (at size : ℕ) (r : Fields) : Type 0 where
   pub meant : fieldValues f r ≡ valuesAt k fl f at size
-  pub stands : FieldsAt fl f at (at + size) r
+  pub located : FieldsAt fl f at (at + size) r
   pub kind-is : fieldsKind r ≡ k
 
--- Of a kind whose fields stand alike under all flags.
+-- Of a kind whose fields are the same under all flags.
 abbrev pub ReadAlike : Kind → List ℕ → ℕ → ℕ → Fields → Type 0
 ReadAlike k f at size r = (fl : ℕ) → ReadAt k fl f at size r
 
@@ -99,13 +99,13 @@ pub record OptionalAt (f : List ℕ) (at len : ℕ) : Type 0 where
   pub inside : at + len ≤ length f
   pub named : (len ≡ 0 → ⊥) → StringAt f at len
 
--- ---- the fields of an SREF that may not stand
+-- ---- the fields that an SREF may not have
 
--- A real that stands, or does not.
+-- A real, or none.
 unfoldable pub realIf : Bool → List ℕ → ℕ → Value
 realIf s f at = cond s (value real (take 8 (drop at f))) missing
 
--- Columns, rows and two points that stand from byte o of a record on, or do not, and the fields behind them.
+-- Columns, rows and two points from byte o of a record on, or none, and the fields after them.
 unfoldable pub arrayIf : Bool → List ℕ → ℕ → ℕ → List Value → List Value
 arrayIf s f at o vs =
     cond s

@@ -43,7 +43,7 @@ pub fn fields_of(f: &[u8], k: Kind, fl: u8, at: usize, size: usize) -> Fields
     requires { ⌜ Readable k fl (now f) at size ⌝ }
     ensures { λ r. ⌜ fieldValues (now (f .entry)) r ≡ values (pieces (layout k fl) (recAt (now (f .entry)) at size .body)) ⌝ }
     ensures kind { λ r. ⌜ fieldsKind r ≡ k ⌝ }
-    ensures stands { λ r. ⌜ FieldsAt fl (now (f .entry)) at (at + size) r ⌝ }
+    ensures located { λ r. ⌜ FieldsAt fl (now (f .entry)) at (at + size) r ⌝ }
 {
     match k {
         Kind::Library => Fields::Library(library_of(f, at, size)),

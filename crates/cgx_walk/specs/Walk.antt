@@ -1,30 +1,35 @@
 -- What the answers of a walk mean, in the terms of the format: this paper's numbers and values for each case. Definitions only.
+use mathlib.Core.Bool.{cond}
 use mathlib.Core.List.{List}
 use mathlib.Core.Path.{_≡_}
 use mathlib.Core.Option.{some}
-use Prim.Native.Nat.{ℕ, zero, suc, _+_, _≤_}
+use Prim.Native.Nat.{ℕ, zero, suc, _+_, _<_, _≤_}
 use lib.ListN.{getD}
 use Rattle.cgx_spec.specs.declared.Context.{Context}
 use Rattle.cgx_spec.specs.declared.Kind.{Kind}
-use Rattle.cgx_spec.specs.declared.Place.{Place}
+use Rattle.cgx_spec.specs.declared.Offset.the-variants.{Nowhere}
 use Rattle.cgx_spec.specs.Files.{opening}
 use Rattle.cgx_spec.specs.Kinds.{kindOf}
-use Rattle.cgx_spec.specs.Order.{next}
+use Rattle.cgx_spec.specs.Order.{isObject, next}
 use Rattle.cgx_spec.specs.Records.{Placed, viewOf}
-use Rattle.cgx_spec.specs.Walking.{firstPlace, Answer, seen, done, refusedAt, stepOf, recAt}
+use Rattle.cgx_spec.specs.Walking.{firstPlace, Answer, seen, done, refusedAt, ending, stepOf, recAt}
 use Rattle.cgx_kinds.specs.Meant.{fieldsKind, viewMeant}
 use Rattle.cgx_kinds.specs.declared.View.{View}
+use Rattle.cgx_cursor.specs.declared.State.{State}
+use Rattle.cgx_cursor.specs.declared.Cursor.{Cursor}
+use Rattle.cgx_cursor.specs.Cursors.{contextIn, placeIn, cursorOf}
 use Rattle.cgx_views.specs.Views.{FieldsAt}
-use Rattle.cgx_records.specs.Faults.{waiting}
 use Rattle.cgx_steps.specs.Steps.{Good}
 use Rattle.cgx_walk.specs.declared.Started.{Started}
 use Rattle.cgx_walk.specs.declared.Started.the-variants.{Ready, Refused as NotBegun}
 use Rattle.cgx_walk.specs.declared.Outcome.{Outcome}
 use Rattle.cgx_walk.specs.declared.Outcome.the-variants.{Record, Done, Refused}
+use Rattle.cgx_walk.specs.declared.Sought.{Sought}
+use Rattle.cgx_walk.specs.declared.Sought.the-variants.{Forged, Ended, Known}
 
 -- "starting gives 1 or 2"
 abbrev pub started : ℕ → Started
-started zero = Ready firstPlace
+started zero = Ready (cursorOf firstPlace)
 started (suc n) = NotBegun (suc n) 0
 
 unfoldable pub startOf : List ℕ → Started
@@ -32,46 +37,63 @@ startOf f = started (opening f)
 
 -- A step over the file f.
 unfoldable pub answerMeant : List ℕ → Outcome → Answer
-answerMeant f (Record v p) = seen (viewMeant f v) p
+answerMeant f (Record v q) = seen (viewMeant f v) (placeIn q)
 answerMeant f Done = done
-answerMeant f (Refused n o p) = refusedAt n o
+answerMeant f (Refused n o q) = refusedAt n o
 
--- "a refusal with the old place"
-abbrev pub HandsBack : Place → Outcome → Type 0
-HandsBack p (Record v q) = Unit {0}
-HandsBack p Done = Unit {0}
-HandsBack p (Refused n o q) = q ≡ p
+-- "a refusal with the old place": the very cursor that was given. After a record every member of the new cursor is that of the place after it, 0 where the place has none.
+abbrev pub Left : Cursor → Outcome → Type 0
+Left c (Record v q) = q ≡ cursorOf (placeIn q)
+Left c Done = Unit {0}
+Left c (Refused n o q) = q ≡ c
 
--- The fields of a view are those of its kind. Its texts and lists stand where the record has them, and end at the new place or before: so their counts are the bytes' own. Its reals
+-- The fields of a view are those of its kind. Its texts and lists begin where the record has them, and end at the new place or before: so their counts are the bytes' own. Its reals
 -- are the answers of their bytes.
-abbrev pub Stands : List ℕ → Outcome → Type 0
-Stands f (Record v q) = (fieldsKind (v .fields) ≡ v .kind) × FieldsAt (v .flags) f (v .at) (q .at) (v .fields)
-Stands f Done = Unit {0}
-Stands f (Refused n o q) = Unit {0}
+abbrev pub Located : List ℕ → Outcome → Type 0
+Located f (Record v q) = (fieldsKind (v .fields) ≡ v .kind) × FieldsAt (v .flags) f (v .at) (q .at) (v .fields)
+Located f Done = Unit {0}
+Located f (Refused n o q) = Unit {0}
 
 -- What a step promises of its answer.
-pub record StepMade (f : List ℕ) (p : Place) (r : Outcome) : Type 0 where
-  pub means : answerMeant f r ≡ stepOf f p
-  pub back : HandsBack p r
-  pub stands : Stands f r
+pub record StepMade (f : List ℕ) (c : Cursor) (r : Outcome) : Type 0 where
+  pub means : answerMeant f r ≡ stepOf f (placeIn c)
+  pub left : Left c r
+  pub located : Located f r
 
 -- ---- a known record that a step has found
 
--- A good record of kind k stands at an offset, and one more PROPERTY can be counted.
-pub record Found (f : List ℕ) (c : Context) (at n : ℕ) (k : Kind) : Type 0 where
+-- A good record of n bytes, of kind k and with flags fl, is at an offset.
+pub record Found (f : List ℕ) (c : Context) (at n : ℕ) (k : Kind) (fl : ℕ) : Type 0 where
   pub good : Good f c at n
   pub kind-is : kindOf (getD f (at + 2) 0) ≡ some k
-  pub few : waiting (c .run) ≤ at
+  pub flags-is : fl ≡ getD f (at + 3) 0
 
+-- Its offset is one that a record can have, and one more PROPERTY can be counted.
+pub record Met (f : List ℕ) (s : State) (at n : ℕ) (k : Kind) (fl : ℕ) : Type 0 where
+  pub found : Found f (contextIn s) at n k fl
+  pub low : 0 < at
+  pub few : s .count ≤ at
+
+-- Its view, and the place after it.
 abbrev pub placedAt : List ℕ → Context → ℕ → ℕ → Placed
 placedAt f c at n = record { at = at; context = c; rec = recAt f at n }
 
--- What is promised of its view.
-pub record Viewed (f : List ℕ) (c : Context) (at n : ℕ) (k : Kind) (v : View) : Type 0 where
-  pub means : viewMeant f v ≡ viewOf k (placedAt f c at n)
-  pub kind-is : fieldsKind (v .fields) ≡ v .kind
-  pub stands : FieldsAt (v .flags) f (v .at) (at + n) (v .fields)
-
--- Its view, and the place after it.
 abbrev pub foundMeant : List ℕ → Context → ℕ → ℕ → Kind → Answer
 foundMeant f c at n k = seen (viewOf k (placedAt f c at n)) (record { at = at + n; context = next c at (some k) })
+
+-- What a step comes to.
+abbrev pub SoughtIs : List ℕ → Cursor → Sought → Type 0
+SoughtIs f c Forged = refusedAt 16 Nowhere ≡ stepOf f (placeIn c)
+SoughtIs f c (Ended v) = ending v ≡ stepOf f (placeIn c)
+SoughtIs f c (Known at n k fl) = Met f (c .state) at n k fl × (foundMeant f (contextIn (c .state)) at n k ≡ stepOf f (placeIn c))
+
+-- What is promised of the view of a record of n bytes from byte b of the memory m on, which is byte `at` of the file.
+pub record Viewed (m : List ℕ) (b : ℕ) (c : Context) (at n : ℕ) (k : Kind) (v : View) : Type 0 where
+  pub means : viewMeant m v ≡ viewOf k (record { at = at; context = c; rec = recAt m b n })
+  pub kind-is : fieldsKind (v .fields) ≡ v .kind
+  pub offset-is : v .at ≡ at
+  pub located : FieldsAt (v .flags) m b (b + n) (v .fields)
+
+-- Of the PROPERTY records that await an object only an object takes any.
+abbrev pub takenBy : Kind → ℕ → ℕ
+takenBy k count = cond (isObject k) count 0

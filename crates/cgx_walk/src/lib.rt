@@ -1,21 +1,21 @@
 // A walk over a file: from the start, one known record at a step.
 ghost use mathlib.Core.Path.{_≡_};
-ghost use mathlib.Core.Bool.{cond};
 ghost use mathlib.Core.Option.{some};
 ghost use mathlib.Core.List.{List};
 ghost use Prim.Native.Nat.{ℕ};
-ghost use Rattle.cgx_spec.specs.Order.{isObject, next};
+ghost use Rattle.cgx_spec.specs.Order.{next};
 ghost use Rattle.cgx_spec.specs.Walking.{ending};
-ghost use Rattle.cgx_walk.specs.Walk.{startOf, answerMeant, HandsBack, Stands, StepMade, Found, Viewed, foundMeant};
+ghost use Rattle.cgx_cursor.specs.Cursors.{offsetIn, runIn, contextIn};
+ghost use Rattle.cgx_walk.specs.Walk.{startOf, answerMeant, Left, Located, StepMade, SoughtIs, Found, Met, Viewed, foundMeant, takenBy};
+use cgx_cursor::Cursor;
+use cgx_cursor::State;
+use cgx_cursor::is_forged;
+use cgx_cursor::next_state;
 use cgx_headers::RecordType;
 use cgx_headers::opening_fault;
 use cgx_kinds::View;
-use cgx_places::is_forged;
-use cgx_records::next_context;
-use cgx_spec::Context;
 use cgx_spec::Kind;
 use cgx_spec::Offset;
-use cgx_spec::Place;
 use cgx_spec::Run;
 use cgx_spec::Verdict;
 use cgx_steps::Stepped;
@@ -24,7 +24,7 @@ use cgx_views::fields_of;
 
 // What starting a walk answers.
 pub enum Started {
-    Ready(Place),
+    Ready(Cursor),
     // 1 or 2, at 0.
     Refused { number: u8, at: usize },
 }
@@ -32,13 +32,13 @@ pub enum Started {
 // What one step answers.
 pub enum Outcome {
     // The next known record, and the place after it.
-    Record(View, Place),
+    Record(View, Cursor),
     Done,
     // The number, the place that it names, and the place that the step was given.
     Refused {
         number: u8,
         at: Offset,
-        place: Place,
+        place: Cursor,
     },
 }
 
@@ -47,36 +47,75 @@ pub fn start(file: &[u8]) -> Started
 {
     let number = opening_fault(file);
     if number == 0 {
-        return Started::Ready(Place::start());
+        return Started::Ready(Cursor::start());
     }
     Started::Refused { number, at: 0 }
 }
 
-// One step: unknown records are skipped, and a refusal behind them names the bad record.
-pub fn step(file: &[u8], place: Place) -> Outcome
+// One step: unknown records are skipped, and a refusal after them names the bad record.
+pub fn step(file: &[u8], place: Cursor) -> Outcome
     ensures { λ r. ⌜ StepMade (now (file .entry)) place r ⌝ }
 {
-    if is_forged(file.len(), place) {
-        return Outcome::Refused {
+    let s = place.state;
+    let sought = seek(file, place);
+    match sought {
+        Sought::Forged => Outcome::Refused {
             number: 16,
             at: Offset::Nowhere,
             place,
-        };
+        },
+        Sought::Ended(v) => ended(v, place),
+        Sought::Known {
+            at,
+            size,
+            kind,
+            flags,
+        } => known(file, s, at, size, kind, flags),
     }
-    let c = place.context;
+}
+
+// ---- the next known record
+
+// What a step comes to before it reads any field.
+pub enum Sought {
+    // Refusal 16.
+    Forged,
+    Ended(Verdict),
+    // A good record of a known kind.
+    Known {
+        at: usize,
+        size: usize,
+        kind: Kind,
+        flags: u8,
+    },
+}
+
+pub fn seek(file: &[u8], place: Cursor) -> Sought
+    ensures { λ r. ⌜ SoughtIs (now (file .entry)) place r ⌝ }
+{
+    if is_forged(file.len(), place) {
+        return Sought::Forged;
+    }
+    let s = place.state;
     let mut at = place.at;
     loop {
-        let found = step_at(file, c, at);
+        let found = step_at(file, s, at);
         match found {
             Stepped::Stop(v) => {
-                return ended(v, place);
+                return Sought::Ended(v);
             }
             Stepped::Go(h) => {
                 let n = h.size;
                 let t = h.kind;
+                let flags = h.flags;
                 match t {
                     RecordType::Known(k) => {
-                        return known(file, c, at, n, k);
+                        return Sought::Known {
+                            at,
+                            size: n,
+                            kind: k,
+                            flags,
+                        };
                     }
                     RecordType::Unknown => {}
                 }
@@ -86,9 +125,11 @@ pub fn step(file: &[u8], place: Place) -> Outcome
     }
 }
 
+// ---- the answer
+
 // The end of a walk: done, or refused at the place of the refusal.
-fn ended(v: Verdict, place: Place) -> Outcome
-    ensures { λ r. ⌜ ((f : List ℕ) → (answerMeant f r ≡ ending v) × Stands f r) × HandsBack place r ⌝ }
+fn ended(v: Verdict, place: Cursor) -> Outcome
+    ensures { λ r. ⌜ ((f : List ℕ) → (answerMeant f r ≡ ending v) × Located f r) × Left place r ⌝ }
 {
     match v {
         Verdict::Accepted => Outcome::Done,
@@ -101,31 +142,41 @@ fn ended(v: Verdict, place: Place) -> Outcome
 }
 
 // The good record of n bytes and kind k at an offset, and the place after it.
-fn known(file: &[u8], c: Context, at: usize, n: usize, k: Kind) -> Outcome
-    requires { ⌜ Found (now file) c at n k ⌝ }
-    ensures { λ r. ⌜ (answerMeant (now (file .entry)) r ≡ foundMeant (now (file .entry)) c at n k) × ((p : Place) → HandsBack p r) × Stands (now (file .entry)) r ⌝ }
+fn known(file: &[u8], s: State, at: usize, n: usize, k: Kind, flags: u8) -> Outcome
+    requires { ⌜ Met (now file) s at n k flags ⌝ }
+    ensures { λ r. ⌜ (answerMeant (now (file .entry)) r ≡ foundMeant (now (file .entry)) (contextIn s) at n k) × ((p : Cursor) → Left p r) × Located (now (file .entry)) r ⌝ }
 {
-    let after = next_context(c, at, k);
-    let v = view_at(file, c, at, n, k, after);
+    let after = next_state(s, at, k);
+    let v = view_at(file, at, at, n, k, flags, s, after);
     Outcome::Record(
         v,
-        Place {
+        Cursor {
             at: at + n,
-            context: after,
+            state: after,
         },
     )
 }
 
-fn view_at(file: &[u8], c: Context, at: usize, n: usize, k: Kind, after: Context) -> View
-    requires { ⌜ Found (now file) c at n k × (after ≡ next c at (some k)) ⌝ }
-    ensures { λ r. ⌜ Viewed (now (file .entry)) c at n k r ⌝ }
+// The good record of n bytes whose first is byte `from` of this memory, and byte `at` of the file: texts and lists count from that memory, the view's own
+// offset, its cell, layer and run from the file.
+pub fn view_at(
+    m: &[u8],
+    from: usize,
+    at: usize,
+    n: usize,
+    k: Kind,
+    flags: u8,
+    s: State,
+    after: State,
+) -> View
+    requires { ⌜ Found (now m) (contextIn s) from n k flags × (contextIn after ≡ next (contextIn s) at (some k)) ⌝ }
+    ensures { λ r. ⌜ Viewed (now (m .entry)) from (contextIn s) at n k r ⌝ }
 {
-    let flags = file[at + 3];
-    let fields = fields_of(file, k, flags, at, n);
-    let cell = after.cell;
-    let layer = after.layer;
-    let awaited = c.run;
-    let run = run_of(k, awaited);
+    let fields = fields_of(m, k, flags, from, n);
+    let cell = offset_of(after.cell);
+    let layer = offset_of(after.layer);
+    let count = taken(k, s.count);
+    let run = run_of(s.first, count);
     View {
         kind: k,
         flags,
@@ -137,21 +188,39 @@ fn view_at(file: &[u8], c: Context, at: usize, n: usize, k: Kind, after: Context
     }
 }
 
-// Only an object has a run.
-fn run_of(k: Kind, r: Run) -> Run
-    ensures { λ v. ⌜ v ≡ cond (isObject k) r Run.Empty ⌝ }
+fn offset_of(n: usize) -> Offset
+    ensures { λ r. ⌜ r ≡ offsetIn n ⌝ }
+{
+    if n == 0 {
+        return Offset::Nowhere;
+    }
+    Offset::At(n)
+}
+
+fn run_of(first: usize, count: usize) -> Run
+    ensures { λ r. ⌜ r ≡ runIn first count ⌝ }
+{
+    if count == 0 {
+        return Run::Empty;
+    }
+    Run::Of { first, count }
+}
+
+// How many PROPERTY records a record takes, of those that await an object.
+pub fn taken(k: Kind, count: usize) -> usize
+    ensures { λ r. ⌜ r ≡ takenBy k count ⌝ }
 {
     match k {
-        Kind::Library => Run::Empty,
-        Kind::Struct => Run::Empty,
-        Kind::Cprpty => Run::Empty,
-        Kind::Property => Run::Empty,
-        Kind::Layer => Run::Empty,
-        Kind::Box => r,
-        Kind::Poly => r,
-        Kind::Wire => r,
-        Kind::Text => r,
-        Kind::Sref => r,
-        Kind::Endlib => Run::Empty,
+        Kind::Library => 0,
+        Kind::Struct => 0,
+        Kind::Cprpty => 0,
+        Kind::Property => 0,
+        Kind::Layer => 0,
+        Kind::Box => count,
+        Kind::Poly => count,
+        Kind::Wire => count,
+        Kind::Text => count,
+        Kind::Sref => count,
+        Kind::Endlib => 0,
     }
 }

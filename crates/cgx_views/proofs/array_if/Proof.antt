@@ -1,4 +1,4 @@
--- `cgx_views::array_if` is right: columns, rows and points are read where they stand, one behind another. Assumes nothing.
+-- `cgx_views::array_if` is right: columns, rows and points are read one after another. Assumes nothing.
 use mathlib.Core.Path.{refl, _∙_}
 use native.Mathlib.Omega.{arith}
 use mir.Syntax.{w32}

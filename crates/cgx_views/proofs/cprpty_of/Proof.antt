@@ -37,7 +37,7 @@ returns c fl =
           then c .text-at .ensures .0
           then refl;
       kind-is = refl;
-      stands = (c .text-at .ensures .1 .0, omega arith);
+      located = (c .text-at .ensures .1 .0, omega arith);
     }
 
 pub cprpty-of-spec : {M : Type 1} → statement M

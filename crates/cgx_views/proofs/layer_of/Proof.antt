@@ -44,7 +44,7 @@ returns c fl =
           then c .name-at .ensures .0
           then refl;
       kind-is = refl;
-      stands = name-in (s .args .at) 8 (s .args .size) (c .name-at .result) (s .pre .0) (c .name-at .ensures .1);
+      located = name-in (s .args .at) 8 (s .args .size) (c .name-at .result) (s .pre .0) (c .name-at .ensures .1);
     }
 
 pub layer-of-spec : {M : Type 1} → statement M

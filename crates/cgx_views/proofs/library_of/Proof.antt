@@ -57,7 +57,7 @@ returns c fl =
           then c .text-at .ensures .0
           then refl;
       kind-is = refl;
-      stands = (c .before .before .before .before .real-at .ensures, c .before .before .before .real-at2 .ensures, (c .text-at .ensures .1 .0, omega arith));
+      located = (c .before .before .before .before .real-at .ensures, c .before .before .before .real-at2 .ensures, (c .text-at .ensures .1 .0, omega arith));
     }
 
 pub library-of-spec : {M : Type 1} → statement M

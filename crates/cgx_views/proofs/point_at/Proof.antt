@@ -1,4 +1,4 @@
--- `cgx_views::point_at` is right: its two longs are read one behind the other. Assumes nothing.
+-- `cgx_views::point_at` is right: its two longs are read one after the other. Assumes nothing.
 use mathlib.Core.Path.{_∙_}
 use native.Mathlib.Omega.{arith}
 use mir.Syntax.{w32}

@@ -28,7 +28,7 @@ returns c fl =
           repeat-value 8 (s .args .f .now) (s .args .at + 4) (s .args .size - 4) (c .repeat-of .result) (c .repeat-of .ensures)
           then refl;
       kind-is = refl;
-      stands = (c .repeat-of .ensures .0, omega arith);
+      located = (c .repeat-of .ensures .0, omega arith);
     }
 
 pub poly-of-spec : {M : Type 1} → statement M

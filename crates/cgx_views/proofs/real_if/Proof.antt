@@ -1,4 +1,4 @@
--- `cgx_views::real_if` is right: a real that stands is given, and else missing. Assumes nothing.
+-- `cgx_views::real_if` is right: a real that is there is given, and else missing. Assumes nothing.
 use mathlib.Core.Path.{refl}
 use lib.ListN.{take, drop}
 use Rattle.cgx_kinds.specs.Meant.{optionalValue}

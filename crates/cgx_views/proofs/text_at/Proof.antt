@@ -1,4 +1,4 @@
--- `cgx_views::text_at` is right: a good string has two zero bytes behind its text where its last byte but one is zero, else one. Assumes nothing.
+-- `cgx_views::text_at` is right: a good string has two zero bytes after its text where its last byte but one is zero, else one. Assumes nothing.
 use mathlib.Core.Path.{refl}
 use native.Mathlib.Omega.{arith}
 use Rattle.cgx_views.proofs.Texts.{two-zeros, one-zero}

@@ -37,7 +37,7 @@ returns c fl =
           then repeat-value 8 (s .args .f .now) (s .args .at + 8) (s .args .size - 8) (c .repeat-of .result) (c .repeat-of .ensures)
           then refl;
       kind-is = refl;
-      stands = (c .repeat-of .ensures .0, omega arith);
+      located = (c .repeat-of .ensures .0, omega arith);
     }
 
 pub wire-of-spec : {M : Type 1} → statement M
