@@ -1,14 +1,18 @@
 -- What is stored in the code's order are the words of a kind, and of a view. Assumes nothing.
 use mathlib.Core.Path.{_≡_, refl, sym, ap, _∙_}
-use mathlib.Core.Bool.{Bool, true, false}
+use mathlib.Core.Bool.{Bool, true, false, not}
 use mathlib.Core.List.{List, [], _∷_}
 use Prim.Native.Nat.{ℕ, suc, _+_, _*_, _^_, _≤_}
 use native.Mathlib.Omega.{arith}
 use native.Mathlib.Numerals.{add-one}
 use borrow.Author.Tests.{eq-eqb}
+use lib.Dec.{eqb}
 use lib.Ieee.{Float, nan, inf, fin, isNan, eq, level, up, down}
 use lib.IntN.{ℤ}
 use lib.ListN.{length, getD, set}
+use Rattle.cgx_spec.specs.declared.Kind.{Kind}
+use Rattle.cgx_spec.specs.declared.Offset.{Offset}
+use Rattle.cgx_spec.specs.declared.Run.{Run}
 use Rattle.cgx_spec.specs.declared.Real.{Real}
 use Rattle.cgx_spec.specs.declared.Real.the-variants.{Exact, Inexact}
 use Rattle.cgx_kinds.specs.declared.OptionalReal.{OptionalReal}
@@ -27,9 +31,11 @@ use Rattle.cgx_kinds.specs.declared.Fields.{Fields}
 use Rattle.cgx_kinds.specs.declared.Fields.the-variants as fields
 use Rattle.cgx_kinds.specs.declared.View.{View}
 use Rattle.cgx_put.specs.Put.{put}
-use Rattle.cgx_words.specs.Words.{offsetWords, runWords}
-use Rattle.cgx_words.proofs.Places.{offset-words, run-words}
-use Rattle.cgx_view_words.specs.ViewWords.{longBits, pointWord, dateWord, spanWords, listWords, realWords, optionalWords, arrayWords, layerWord, layerWords, fieldWords, headWord, viewWords}
+use Rattle.cgx_put.proofs.Puts.{put-next}
+use Rattle.cgx_cursor.specs.Cursors.{offsetIn, runIn, firstOf}
+use Rattle.cgx_words.specs.Words.{bit}
+use Rattle.cgx_words.proofs.Places.{offset-words, run-words, offset-out, run-out}
+use Rattle.cgx_view_words.specs.ViewWords.{longBits, pointWord, dateWord, spanWords, listWords, realWords, optionalWords, arrayWords, layerWord, layerWords, fieldWords, headWord, headWords, viewWords}
 
 -- ---- rows of stores
 
@@ -66,6 +72,12 @@ array-words : (a : Array) → arrayWords a ≡ getD (arrayWords a) 0 0 ∷ getD 
 unfolding arrayWords
 array-words Single = refl
 array-words (ArrayOf c r a u) = refl
+
+-- ---- heads
+
+nine : (k : Kind) (fl at : ℕ) (cell layer : Offset) (run : Run) → length (headWords k fl at cell layer run) ≡ 9
+unfolding headWords
+nine k fl at cell layer run = rw (offset-words cell, offset-words layer, run-words run) refl
 
 -- ---- kinds: what is stored in the code's order are the kind's words
 
@@ -108,17 +120,19 @@ module _ (w : List ℕ) where
   sref-stored s w₁ w₂ w₃ w₄ a qa q₁ q₂ q₃ q₄ =
       q₄ ∙ rw (q₃, q₂, q₁, qa) (rw (optional-words (s .angle), optional-words (s .magnif), array-words (s .array)) refl)
 
-  -- nine words that every kind has, then the fields
-  pub view-stored : (v : View) (w₁ : List ℕ) (a b c d e f g h : ℕ)
-      → a ≡ headWord (v .kind) (v .flags)
-      → b ≡ getD (offsetWords (v .cell)) 0 0 → c ≡ getD (offsetWords (v .cell)) 1 0
-      → d ≡ getD (offsetWords (v .layer)) 0 0 → e ≡ getD (offsetWords (v .layer)) 1 0
-      → f ≡ getD (runWords (v .run)) 0 0 → g ≡ getD (runWords (v .run)) 1 0 → h ≡ getD (runWords (v .run)) 2 0
-      → w₁ ≡ put (set (set (set (set (set (set (set (set (set w 0 a) 1 (v .at)) 2 b) 3 c) 4 d) 5 e) 6 f) 7 g) 8 h) 9 (fieldWords (v .fields))
-      → w₁ ≡ put w 0 (viewWords v)
-  unfolding put viewWords
-  view-stored v w₁ a b c d e f g h qa qb qc qd qe qf qg qh q =
-      q ∙ rw (qa, qb, qc, qd, qe, qf, qg, qh) (rw (offset-words (v .cell), offset-words (v .layer), run-words (v .run)) refl)
+  -- the nine words that every kind has
+  pub head-stored : (k : Kind) (fl at cell layer first count a x y z b : ℕ)
+      → a ≡ headWord k fl → x ≡ bit (not (eqb cell 0)) → y ≡ bit (not (eqb layer 0)) → z ≡ bit (not (eqb count 0)) → b ≡ firstOf first count 0
+      → set (set (set (set (set (set (set (set (set w 0 a) 1 at) 2 x) 3 cell) 4 y) 5 layer) 6 z) 7 b) 8 count ≡ put w 0 (headWords k fl at (offsetIn cell) (offsetIn layer) (runIn first count))
+  unfolding put headWords
+  head-stored k fl at cell layer first count a x y z b qa qx qy qz qb = rw (offset-out cell, offset-out layer, run-out first count, qa, qx, qy, qz, qb) refl
+
+  -- then the fields
+  pub view-stored : (v : View) (w₁ w₂ : List ℕ) → w₁ ≡ put w 0 (headWords (v .kind) (v .flags) (v .at) (v .cell) (v .layer) (v .run)) → w₂ ≡ put w₁ 9 (fieldWords (v .fields)) → w₂ ≡ put w 0 (viewWords v)
+  unfolding viewWords
+  view-stored v w₁ w₂ q₁ q₂ =
+      let h = headWords (v .kind) (v .flags) (v .at) (v .cell) (v .layer) (v .run) in
+      q₂ ∙ ap (λ (x : List ℕ). put x 9 (fieldWords (v .fields))) q₁ ∙ put-next w 0 9 9 h (fieldWords (v .fields)) (nine (v .kind) (v .flags) (v .at) (v .cell) (v .layer) (v .run)) refl
 
 -- ---- a view has room for every kind: a store of its words leaves none out
 
@@ -142,7 +156,7 @@ fields-fit (fields.Sref s) = rw (optional-words (s .angle), optional-words (s .m
 fields-fit fields.Endlib = omega arith
 
 pub view-fits : (v : View) → length (viewWords v) ≤ 22
-unfolding viewWords
+unfolding viewWords headWords
 view-fits v = rw (offset-words (v .cell), offset-words (v .layer), run-words (v .run)) (omega (arith, fields-fit (v .fields)))
 
 -- ---- doubles: only a NaN differs from itself

@@ -5,10 +5,12 @@ use Prim.Native.Nat.{ℕ, _+_, _*_, _^_}
 use lib.Ieee.{Float, binary64, isNan, toBits}
 use lib.IntN.{ℤ}
 use Rattle.cgx_spec.specs.declared.Kind.{Kind}
+use Rattle.cgx_spec.specs.declared.Kind.the-variants as kinds
+use Rattle.cgx_spec.specs.declared.Offset.{Offset}
+use Rattle.cgx_spec.specs.declared.Run.{Run}
 use Rattle.cgx_spec.specs.declared.Real.{Real}
 use Rattle.cgx_spec.specs.declared.Real.the-variants.{Exact, Inexact}
 use Rattle.cgx_spec.specs.Numbers.{untwos}
-use Rattle.cgx_spec.specs.Restated.{typeByte}
 use Rattle.cgx_kinds.specs.declared.Span.{Span}
 use Rattle.cgx_kinds.specs.declared.Name.{Name}
 use Rattle.cgx_kinds.specs.declared.Name.the-variants.{Absent, Present}
@@ -31,7 +33,7 @@ longBits z = untwos (2 ^ 31) z
 abbrev pub shortBits : ℤ → ℕ
 shortBits z = untwos (2 ^ 15) z
 
--- Two longs stand in one word.
+-- Two longs are in one word.
 unfoldable pub pairWord : ℤ → ℤ → ℕ
 pairWord a b = longBits a + 2 ^ 32 * longBits b
 
@@ -54,7 +56,7 @@ listWords r = r .first ∷ r .count ∷ []
 unfoldable pub doubleBits : Float → ℕ
 doubleBits x = cond (isNan x) 0 (toBits binary64 x)
 
--- Whether it stands, whether it is exact, its sign and exponent; its double; its mantissa.
+-- Whether there is one, whether it is exact, its sign and exponent; its double; its mantissa.
 unfoldable pub realWords : Real → List ℕ
 realWords (Exact x) = (1 + 2 ^ 8) ∷ doubleBits x ∷ 0 ∷ []
 realWords (Inexact negative e m) = (1 + 2 ^ 16 * bit negative + 2 ^ 24 * e) ∷ 0 ∷ m ∷ []
@@ -90,11 +92,28 @@ fieldWords (Text t) = pointWord (t .at) ∷ longBits (t .width) ∷ spanWords (t
 fieldWords (Sref s) = pointWord (s .at) ∷ optionalWords (s .angle) ++ optionalWords (s .magnif) ++ arrayWords (s .array) ++ spanWords (s .name)
 fieldWords Endlib = []
 
--- The kind and the flags stand in one word.
-unfoldable pub headWord : Kind → ℕ → ℕ
-headWord k flags = typeByte k + 2 ^ 8 * flags
+-- A kind's number in C: its type byte in a file.
+abbrev pub kindByte : Kind → ℕ
+kindByte kinds.Library = 0
+kindByte kinds.Struct = 1
+kindByte kinds.Cprpty = 2
+kindByte kinds.Property = 3
+kindByte kinds.Layer = 4
+kindByte kinds.Box = 5
+kindByte kinds.Poly = 6
+kindByte kinds.Wire = 7
+kindByte kinds.Text = 8
+kindByte kinds.Sref = 9
+kindByte kinds.Endlib = 10
 
--- The words of a view: nine that every kind has, then its fields.
+-- The kind and the flags are in one word.
+unfoldable pub headWord : Kind → ℕ → ℕ
+headWord k flags = kindByte k + 2 ^ 8 * flags
+
+-- The nine words that every kind has.
+unfoldable pub headWords : Kind → ℕ → ℕ → Offset → Offset → Run → List ℕ
+headWords k flags at cell layer run = headWord k flags ∷ at ∷ offsetWords cell ++ offsetWords layer ++ runWords run
+
+-- The words of a view: those, then its fields.
 unfoldable pub viewWords : View → List ℕ
-viewWords v =
-    headWord (v .kind) (v .flags) ∷ v .at ∷ offsetWords (v .cell) ++ offsetWords (v .layer) ++ runWords (v .run) ++ fieldWords (v .fields)
+viewWords v = headWords (v .kind) (v .flags) (v .at) (v .cell) (v .layer) (v .run) ++ fieldWords (v .fields)

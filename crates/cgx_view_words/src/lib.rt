@@ -12,48 +12,47 @@ use cgx_kinds::Span;
 use cgx_kinds::Sref;
 use cgx_kinds::Struct;
 use cgx_kinds::Text;
-use cgx_kinds::View;
 use cgx_kinds::Wire;
 use cgx_numbers::long_bits;
 use cgx_numbers::short_bits;
 use cgx_spec::Kind;
 use cgx_spec::Real;
 use cgx_words::bit;
-use cgx_words::offset_at;
-use cgx_words::offset_present;
-use cgx_words::run_count;
-use cgx_words::run_first;
-use cgx_words::run_present;
+use cgx_words::first_of;
 ghost use mathlib.Core.Path.{_≡_};
 ghost use mathlib.Core.List.{_∷_};
 ghost use Prim.Native.Nat.{_+_, _*_, _^_, _<_, _≤_};
-ghost use Rattle.cgx_spec.specs.Restated.{typeByte};
 ghost use Rattle.cgx_put.specs.Put.{put};
+ghost use Rattle.cgx_cursor.specs.Cursors.{offsetIn, runIn};
 ghost use Rattle.cgx_words.specs.Words.{bit as bitOf};
-ghost use Rattle.cgx_view_words.specs.ViewWords.{longBits, shortBits, pairWord, pointWord, dateWord, spanWords, listWords, doubleBits, realWords, optionalWords, arrayWords, layerWord, fieldWords, headWord, viewWords};
+ghost use Rattle.cgx_view_words.specs.ViewWords.{longBits, shortBits, pairWord, pointWord, dateWord, spanWords, listWords, doubleBits, realWords, optionalWords, arrayWords, layerWord, fieldWords, kindByte, headWord, headWords};
 
 pub type ViewWords = [u64; 22];
 
-// What every kind has, then its fields. What the caller's view holds behind them stays.
-pub fn put_view(w: &mut ViewWords, v: View)
-    ensures { λ _. ⌜ now (w .exit) ≡ put (now (w .entry)) 0 (viewWords v) ⌝ }
+// ---- what every kind has
+
+// The offsets of cell and layer, 0 for none, and a run of so many: none, whatever its first, where there are 0.
+pub fn put_head(
+    w: &mut ViewWords,
+    k: Kind,
+    flags: u8,
+    at: usize,
+    cell: usize,
+    layer: usize,
+    first: usize,
+    count: usize,
+)
+    ensures { λ _. ⌜ now (w .exit) ≡ put (now (w .entry)) 0 (headWords k flags at (offsetIn cell) (offsetIn layer) (runIn first count)) ⌝ }
 {
-    let k = v.kind;
-    let flags = v.flags;
-    let fields = v.fields;
-    let cell = v.cell;
-    let layer = v.layer;
-    let run = v.run;
     w[0] = head_word(k, flags);
-    w[1] = v.at as u64;
-    w[2] = offset_present(cell);
-    w[3] = offset_at(cell);
-    w[4] = offset_present(layer);
-    w[5] = offset_at(layer);
-    w[6] = run_present(run);
-    w[7] = run_first(run);
-    w[8] = run_count(run);
-    put_fields(w, fields);
+    w[1] = at as u64;
+    w[2] = bit(cell != 0);
+    w[3] = cell as u64;
+    w[4] = bit(layer != 0);
+    w[5] = layer as u64;
+    w[6] = bit(count != 0);
+    w[7] = first_of(first, count);
+    w[8] = count as u64;
 }
 
 fn head_word(k: Kind, flags: u8) -> u64
@@ -63,7 +62,7 @@ fn head_word(k: Kind, flags: u8) -> u64
 }
 
 fn kind_number(k: Kind) -> u64
-    ensures { λ r. ⌜ r ≡ typeByte k ⌝ }
+    ensures { λ r. ⌜ r ≡ kindByte k ⌝ }
     ensures known { λ r. ⌜ r ≤ 10 ⌝ }
 {
     match k {
@@ -81,41 +80,9 @@ fn kind_number(k: Kind) -> u64
     }
 }
 
-fn put_fields(w: &mut ViewWords, f: Fields)
-    ensures { λ _. ⌜ now (w .exit) ≡ put (now (w .entry)) 9 (fieldWords f) ⌝ }
-{
-    match f {
-        Fields::Library(l) => put_library(w, l),
-        Fields::Struct(s) => put_struct(w, s),
-        Fields::Cprpty(p) => {
-            let number = p.number;
-            let value = p.value;
-            put_property(w, number, value);
-        }
-        Fields::Property(p) => {
-            let number = p.number;
-            let value = p.value;
-            put_property(w, number, value);
-        }
-        Fields::Layer(l) => put_layer(w, l),
-        Fields::Box(b) => {
-            let boxes = b.boxes;
-            put_list(w, 9, boxes);
-        }
-        Fields::Poly(p) => {
-            let points = p.points;
-            put_list(w, 9, points);
-        }
-        Fields::Wire(x) => put_wire(w, x),
-        Fields::Text(t) => put_text(w, t),
-        Fields::Sref(s) => put_sref(w, s),
-        Fields::Endlib => {}
-    }
-}
+// ---- a kind each: what the caller's view holds after its words stays
 
-// ---- a kind each
-
-fn put_library(w: &mut ViewWords, l: Library)
+pub fn put_library(w: &mut ViewWords, l: Library)
     ensures { λ _. ⌜ now (w .exit) ≡ put (now (w .entry)) 9 (fieldWords (Fields.Library l)) ⌝ }
 {
     let munit = l.munit;
@@ -130,7 +97,7 @@ fn put_library(w: &mut ViewWords, l: Library)
     put_span(w, 17, name);
 }
 
-fn put_struct(w: &mut ViewWords, s: Struct)
+pub fn put_struct(w: &mut ViewWords, s: Struct)
     ensures { λ _. ⌜ now (w .exit) ≡ put (now (w .entry)) 9 (fieldWords (Fields.Struct s)) ⌝ }
 {
     let created = s.created;
@@ -141,14 +108,14 @@ fn put_struct(w: &mut ViewWords, s: Struct)
     put_span(w, 11, name);
 }
 
-fn put_property(w: &mut ViewWords, number: i32, value: Span)
+pub fn put_property(w: &mut ViewWords, number: i32, value: Span)
     ensures { λ _. ⌜ now (w .exit) ≡ put (now (w .entry)) 9 (longBits number ∷ spanWords value) ⌝ }
 {
     w[9] = long_word(number);
     put_span(w, 10, value);
 }
 
-fn put_layer(w: &mut ViewWords, l: Layer)
+pub fn put_layer(w: &mut ViewWords, l: Layer)
     ensures { λ _. ⌜ now (w .exit) ≡ put (now (w .entry)) 9 (fieldWords (Fields.Layer l)) ⌝ }
 {
     let number = l.number;
@@ -174,7 +141,7 @@ fn layer_word(number: i16, datatype: i16) -> u64
     short_word(number) + 0x1_0000 * short_word(datatype)
 }
 
-fn put_wire(w: &mut ViewWords, x: Wire)
+pub fn put_wire(w: &mut ViewWords, x: Wire)
     ensures { λ _. ⌜ now (w .exit) ≡ put (now (w .entry)) 9 (fieldWords (Fields.Wire x)) ⌝ }
 {
     let width = x.width;
@@ -183,7 +150,7 @@ fn put_wire(w: &mut ViewWords, x: Wire)
     put_list(w, 10, points);
 }
 
-fn put_text(w: &mut ViewWords, t: Text)
+pub fn put_text(w: &mut ViewWords, t: Text)
     ensures { λ _. ⌜ now (w .exit) ≡ put (now (w .entry)) 9 (fieldWords (Fields.Text t)) ⌝ }
 {
     let at = t.at;
@@ -194,7 +161,7 @@ fn put_text(w: &mut ViewWords, t: Text)
     put_span(w, 11, label);
 }
 
-fn put_sref(w: &mut ViewWords, s: Sref)
+pub fn put_sref(w: &mut ViewWords, s: Sref)
     ensures { λ _. ⌜ now (w .exit) ≡ put (now (w .entry)) 9 (fieldWords (Fields.Sref s)) ⌝ }
 {
     let at = s.at;
@@ -219,7 +186,7 @@ fn put_span(w: &mut ViewWords, i: usize, s: Span)
     w[i + 1] = s.len as u64;
 }
 
-fn put_list(w: &mut ViewWords, i: usize, r: Repeat)
+pub fn put_list(w: &mut ViewWords, i: usize, r: Repeat)
     requires { ⌜ i + 2 ≤ 22 ⌝ }
     ensures { λ _. ⌜ now (w .exit) ≡ put (now (w .entry)) i (listWords r) ⌝ }
 {

@@ -1,14 +1,17 @@
 -- The words of a place, one by one, and back: they say that place. Assumes nothing.
 use mathlib.Core.Path.{_≡_, refl, ap, _∙_}
-use mathlib.Core.Bool.{Bool, true, false}
-use mathlib.Core.List.{[], _∷_}
-use Prim.Native.Nat.{ℕ, _^_, _/_}
+use mathlib.Core.Bool.{Bool, true, false, not, cond}
+use mathlib.Core.List.{List, [], _∷_}
+use Prim.Native.Nat.{ℕ, zero, suc, _^_, _/_}
+use lib.Dec.{eqb, eqb·suc-zero}
 use lib.ListN.{getD}
 use Rattle.cgx_spec.specs.declared.Offset.{Offset}
 use Rattle.cgx_spec.specs.declared.Offset.the-variants.{Nowhere, At}
 use Rattle.cgx_spec.specs.declared.Run.{Run}
 use Rattle.cgx_spec.specs.declared.Run.the-variants.{Empty, Of}
 use Rattle.cgx_spec.specs.declared.Place.{Place}
+use Rattle.cgx_cursor.specs.declared.Cursor.{Cursor}
+use Rattle.cgx_cursor.specs.Cursors.{offsetIn, runIn, contextIn, placeIn, stateOf, cursorOf, offsetNumber, runFirst, runCount, firstOf}
 use Rattle.cgx_words.specs.Words.{bit, offsetWords, runWords, stateWord, placeWords, isSet, offsetOf, runOf, placeOf}
 
 -- ---- the words of offsets and runs, one by one
@@ -31,17 +34,63 @@ pub place-words : (p : Place) → let c = p .context in
 unfolding placeWords
 place-words p = let c = p .context in rw (offset-words (c .cell), offset-words (c .layer), run-words (c .run)) refl
 
-pub place-stored : (p : Place) (b c d e f g h i : ℕ)
-    → b ≡ getD (offsetWords (p .context .cell)) 0 0
-    → c ≡ getD (offsetWords (p .context .cell)) 1 0
-    → d ≡ getD (offsetWords (p .context .layer)) 0 0
-    → e ≡ getD (offsetWords (p .context .layer)) 1 0
-    → f ≡ getD (runWords (p .context .run)) 0 0
-    → g ≡ getD (runWords (p .context .run)) 1 0
-    → h ≡ getD (runWords (p .context .run)) 2 0
-    → i ≡ stateWord (p .context .library) (p .context .fresh) (p .context .ended)
-    → p .at ∷ b ∷ c ∷ d ∷ e ∷ f ∷ g ∷ h ∷ i ∷ [] ≡ placeWords p
-place-stored p b c d e f g h i qb qc qd qe qf qg qh qi = cc (place-words p)
+-- ---- from a cursor's numbers
+
+pub offset-out : (n : ℕ) → offsetWords (offsetIn n) ≡ bit (not (eqb n 0)) ∷ n ∷ []
+unfolding offsetWords offsetIn bit
+offset-out zero = refl
+offset-out (suc n) = rw (eqb·suc-zero n) refl
+
+pub run-out : (first n : ℕ) → runWords (runIn first n) ≡ bit (not (eqb n 0)) ∷ firstOf first n 0 ∷ n ∷ []
+unfolding runWords runIn bit firstOf
+run-out first zero = refl
+run-out first (suc n) = rw (eqb·suc-zero n) refl
+
+pub place-stored : (c : Cursor) (x y z f w : ℕ) → let s = c .state in
+    x ≡ bit (not (eqb (s .cell) 0))
+    → y ≡ bit (not (eqb (s .layer) 0))
+    → z ≡ bit (not (eqb (s .count) 0))
+    → f ≡ firstOf (s .first) (s .count) 0
+    → w ≡ stateWord (s .library) (s .fresh) (s .ended)
+    → c .at ∷ x ∷ s .cell ∷ y ∷ s .layer ∷ z ∷ f ∷ s .count ∷ w ∷ [] ≡ placeWords (placeIn c)
+unfolding placeWords placeIn contextIn
+place-stored c x y z f w qx qy qz qf qw = let s = c .state in rw (offset-out (s .cell), offset-out (s .layer), run-out (s .first) (s .count), qx, qy, qz, qf, qw) refl
+
+-- ---- to a cursor's numbers
+
+pub offset-number : (w n : ℕ) → cond (isSet w) n 0 ≡ offsetNumber (offsetOf w n)
+unfolding offsetOf
+offset-number w n = go (isSet w)
+  where
+    go : (b : Bool) → cond b n 0 ≡ offsetNumber (cond b (At n) Nowhere)
+    go true = refl
+    go false = refl
+
+pub run-number : (w first count : ℕ) → (cond (isSet w) first 0 ≡ runFirst (runOf w first count)) × (cond (isSet w) count 0 ≡ runCount (runOf w first count))
+unfolding runOf
+run-number w first count = go (isSet w)
+  where
+    go : (b : Bool) → (cond b first 0 ≡ runFirst (cond b (Of first count) Empty)) × (cond b count 0 ≡ runCount (cond b (Of first count) Empty))
+    go true = (refl, refl)
+    go false = (refl, refl)
+
+pub cursor-read : (w : List ℕ) (cell layer first count : ℕ) (library fresh ended : Bool)
+    → cell ≡ cond (isSet (getD w 1 0)) (getD w 2 0) 0
+    → layer ≡ cond (isSet (getD w 3 0)) (getD w 4 0) 0
+    → first ≡ cond (isSet (getD w 5 0)) (getD w 6 0) 0
+    → count ≡ cond (isSet (getD w 5 0)) (getD w 7 0) 0
+    → library ≡ isSet (getD w 8 0)
+    → fresh ≡ isSet (getD w 8 0 / 2 ^ 8)
+    → ended ≡ isSet (getD w 8 0 / 2 ^ 16)
+    → record { at = getD w 0 0; state = record { cell = cell; layer = layer; first = first; count = count; library = library; fresh = fresh; ended = ended } } ≡ cursorOf (placeOf w)
+unfolding cursorOf stateOf placeOf
+cursor-read w cell layer first count library fresh ended qc ql qf qn qb qr qe =
+    let oc = qc ∙ offset-number (getD w 1 0) (getD w 2 0) in
+    let ol = ql ∙ offset-number (getD w 3 0) (getD w 4 0) in
+    let r = run-number (getD w 5 0) (getD w 6 0) (getD w 7 0) in
+    let of = qf ∙ r .0 in
+    let on = qn ∙ r .1 in
+    λ i. record { at = getD w 0 0; state = record { cell = oc i; layer = ol i; first = of i; count = on i; library = qb i; fresh = qr i; ended = qe i } }
 
 -- ---- and back
 
@@ -71,7 +120,7 @@ state-back true false true = record { library = refl; fresh = refl; ended = refl
 state-back true true false = record { library = refl; fresh = refl; ended = refl }
 state-back true true true = record { library = refl; fresh = refl; ended = refl }
 
--- The words of a place say that place: a walk goes on where it stands.
+-- The words of a place say that place: a walk goes on from there.
 pub place-back : (p : Place) → placeOf (placeWords p) ≡ p
 unfolding placeOf
 place-back p = let c = p .context in

@@ -5,7 +5,7 @@ use Rattle.cgx_spec.specs.declared.Place.{Place}
 use Rattle.cgx_words.specs.Words.{placeWords, placeOf}
 
 pub record WordsDemand : Type 0 where
-  -- The words of a place say that place: what `put_place` stores, `place_of` reads, and a walk goes on from there.
+  -- The words of a place say that place: what `put_cursor` stores, `cursor_of` reads, and a walk goes on from there.
   pub back : (p : Place) → placeOf (placeWords p) ≡ p
   -- Every place has nine words, as many as a `cgx_place` of include/cgx.h.
   pub nine : (p : Place) → length (placeWords p) ≡ 9

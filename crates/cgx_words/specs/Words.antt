@@ -24,7 +24,7 @@ unfoldable pub runWords : Run → List ℕ
 runWords Empty = 0 ∷ 0 ∷ 0 ∷ []
 runWords (Of n k) = 1 ∷ n ∷ k ∷ []
 
--- The three bools of a place stand in one word.
+-- The three bools of a place are in one word.
 unfoldable pub stateWord : Bool → Bool → Bool → ℕ
 stateWord library fresh ended = bit library + 2 ^ 8 * bit fresh + 2 ^ 16 * bit ended
 
@@ -33,7 +33,7 @@ unfoldable pub placeWords : Place → List ℕ
 placeWords p = let c = p .context in
     p .at ∷ offsetWords (c .cell) ++ offsetWords (c .layer) ++ runWords (c .run) ++ stateWord (c .library) (c .fresh) (c .ended) ∷ []
 
--- A C bool is the low byte of a word: the bytes behind it may hold anything.
+-- A C bool is the low byte of a word: the bytes after it may hold anything.
 unfoldable pub isSet : ℕ → Bool
 isSet w = not (eqb (w % 2 ^ 8) 0)
 

@@ -1,20 +1,17 @@
 -- By cases.
 use mathlib.Core.Path.{refl, sym, _∙_}
-use Rattle.cgx_words.specs.Words.{offsetOf}
 use borrow.Author.Needs.{needs}
-use Rattle.cgx_words.proofs.offset_of.Statement.{statement}
-use Rattle.cgx_words.proofs.offset_of.Tie as tie
+use Rattle.cgx_words.proofs.number_of.Statement.{statement}
+use Rattle.cgx_words.proofs.number_of.Tie as tie
 
 is-set-requires : tie.Need-is-set-requires
 is-set-requires c κs = search needs
 
 returns : tie.Need-returns
-unfolding offsetOf
 returns c = rw (sym (c .before .is-set .ensures) ∙ c .if1 .taken) refl
 
 returns-2 : tie.Need-returns-2
-unfolding offsetOf
 returns-2 c = rw (sym (c .before .is-set .ensures) ∙ c .if1 .left) refl
 
-pub offset-of-spec : {M : Type 1} → statement M
-offset-of-spec = tie.close (tie.spec is-set-requires returns returns-2)
+pub number-of-spec : {M : Type 1} → statement M
+number-of-spec = tie.close (tie.spec is-set-requires returns returns-2)
