@@ -1,0 +1,2 @@
+-- `Fills`: of any kind.
+pub mod Fills

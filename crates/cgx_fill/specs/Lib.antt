@@ -1,0 +1,2 @@
+-- What is stored of a record's fields.
+pub mod Fill
