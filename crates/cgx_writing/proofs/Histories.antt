@@ -1,13 +1,15 @@
 -- After any calls from a fresh start, what the taken ones stored is read back: each store lengthens the bytes before the writer's place by a good record. Assumes nothing.
-use mathlib.Core.Path.{_≡_, refl, sym, ap, ap₂, _∙_}
+use mathlib.Core.Path.{_≡_, refl, sym, ap, ap₂, _∙_, subst}
 use mathlib.Core.Bool.{Bool, true, false, cond}
 use mathlib.Core.List.{List, [], _∷_, _++_, map, append-nil, append-assoc}
 use mathlib.Core.Option.{Option, none, some}
 use Prim.Native.Nat.{ℕ, _+_, _≤_}
 use native.Mathlib.Omega.{arith}
+use borrow.Author.Tests.{ne-eqb}
 use lib.Dec.{leb, leb→le}
 use lib.ListN.{length, take}
 use Rattle.cgx_spec.specs.declared.Kind.{Kind}
+use Rattle.cgx_spec.specs.declared.Context.{Context}
 use Rattle.cgx_spec.specs.declared.Place.{Place}
 use Rattle.cgx_spec.specs.declared.Verdict.{Verdict}
 use Rattle.cgx_spec.specs.Fields.{join}
@@ -19,64 +21,75 @@ use Rattle.cgx_spec.specs.Written.{GoodFrom}
 use Rattle.cgx_spec.proofs.Lists.{true→T}
 use Rattle.cgx_spec.proofs.Steps.{reading-law}
 use Rattle.cgx_spec.proofs.Chain.{good-chain, file-complete}
+use Rattle.cgx_cursor.specs.Cursors.{placeIn, cursorOf}
+use Rattle.cgx_cursor.proofs.Laws.{start-in}
 use Rattle.cgx_put.specs.Put.{put}
 use Rattle.cgx_put.proofs.Puts.{put-length}
+use Rattle.cgx_writing.specs.declared.Writer.{Writer}
 use Rattle.cgx_writing.specs.Given.{Given, meant, written}
 use Rattle.cgx_writing.specs.Typed.{WellTyped, AllWell}
-use Rattle.cgx_writing.specs.Writing.{rulesOf, checks, placeBehind, settled, callIn, placeOf, History, ifTaken, calls, fromStart, fileOf}
+use Rattle.cgx_writing.specs.Writing.{offsetOf, contextOf, placeOf, firstWriter, writerAfter, rulesOf, checks, History, ifTaken, calls, fromStart, fileOf}
 use Rattle.cgx_writing.specs.Demands.{ReadBack}
 use Rattle.cgx_writing.proofs.Records.{further, checks-are, kind-written, Good, good-call}
+use Rattle.cgx_writing.proofs.Calls.{by-outcome}
+use Rattle.cgx_writing.proofs.Standing.{place-after}
 use Rattle.cgx_writing.proofs.Stores.{take-put, take-record, start-is}
 
 -- ---- one call
 
 -- no refusal: the rules are kept and there is room
-no-refusal : (n : ℕ) (p : Place) (g : Given) → broken (checks n p g) ≡ none → (broken (rulesOf (p .context) g) ≡ none) × (p .at + size (written g) ≤ n)
-no-refusal n p g e = one (forged n p) (broken (rulesOf (p .context) g)) (leb (p .at + size (written g)) n) refl (sym (checks-are n p g) ∙ e)
+no-refusal : (n : ℕ) (w : Writer) (g : Given) → broken (checks n w g) ≡ none → (broken (rulesOf (contextOf w) g) ≡ none) × (offsetOf w + size (written g) ≤ n)
+no-refusal n w g e = one (forged n (placeOf w)) (broken (rulesOf (contextOf w) g)) (leb (offsetOf w + size (written g)) n) refl (sym (checks-are n w g) ∙ e)
   where
-    one : (f : Bool) (o : Option ℕ) (r : Bool) → leb (p .at + size (written g)) n ≡ r → cond f (some 16) (further o 14 r) ≡ none → (o ≡ none) × (p .at + size (written g) ≤ n)
+    one : (f : Bool) (o : Option ℕ) (r : Bool) → leb (offsetOf w + size (written g)) n ≡ r → cond f (some 16) (further o 14 r) ≡ none → (o ≡ none) × (offsetOf w + size (written g) ≤ n)
     one true o r q e = absurd (let z : _≡_ {A = ℕ} 0 1 = cc in omega arith)
     one false (some m) r q e = absurd (let z : _≡_ {A = ℕ} 0 1 = cc in omega arith)
     one false none false q e = absurd (let z : _≡_ {A = ℕ} 0 1 = cc in omega arith)
-    one false none true q e = (refl, leb→le (p .at + size (written g)) n (true→T q))
+    one false none true q e = (refl, leb→le (offsetOf w + size (written g)) n (true→T q))
 
 -- ---- any calls
 
-pub record Kept (p : Place) (seen : List ℕ) (h : History) : Type 0 where
-  pub good : GoodFrom (p .context) (p .at) (map written (h .taken))
-  pub bytes : take (h .place .at) (h .buffer) ≡ seen ++ join bytesOf (map written (h .taken))
+pub record Kept (w : Writer) (seen : List ℕ) (h : History) : Type 0 where
+  pub good : GoodFrom (contextOf w) (offsetOf w) (map written (h .taken))
+  pub bytes : take (offsetOf (h .writer)) (h .buffer) ≡ seen ++ join bytesOf (map written (h .taken))
   pub means : map (λ g. meaningOf (g .kind) (written g)) (h .taken) ≡ map meant (h .taken)
   pub normal : map (λ g. normalOf (g .kind) (written g)) (h .taken) ≡ map written (h .taken)
 
-one-call : (g : Given) (gs : List Given) → WellTyped g
-    → ((buf : List ℕ) (p : Place) → p .at ≤ length buf → calls buf p gs .place .context .ended ≡ true → Kept p (take (p .at) buf) (calls buf p gs))
-    → (buf : List ℕ) (p : Place) → p .at ≤ length buf → (o : Option ℕ) → broken (checks (length buf) p g) ≡ o
-    → let w = settled buf p g o in let h = calls (w .buffer) (placeOf (w .answer)) gs in
-    let all : History = record { taken = ifTaken (w .answer) g (h .taken); place = h .place; buffer = h .buffer } in
-    all .place .context .ended ≡ true → Kept p (take (p .at) buf) all
-unfolding settled placeBehind placeAfter contextAfter
-one-call g gs w rest buf p l (some n) f e = rest buf p l e
-one-call g gs w rest buf p l none f e =
-    let n = no-refusal (length buf) p g f in
-    let c : Good (p .context) g = good-call (p .context) g w (n .0) in
+-- what calls from a writer on keep
+abbrev Keeping : List Given → List ℕ → Writer → Type 0
+Keeping gs buf w = 4 ≤ offsetOf w → offsetOf w ≤ length buf → let h = calls buf w gs in contextOf (h .writer) .ended ≡ true → Kept w (take (offsetOf w) buf) h
+
+-- a record that is taken, and then more calls
+one-taken : (g : Given) (gs : List Given) → WellTyped g → (buf : List ℕ) (w : Writer) → broken (checks (length buf) w g) ≡ none → let b = put buf (offsetOf w) (bytesOf (written g)) in let v = writerAfter w g in
+    Keeping gs b v → 4 ≤ offsetOf w → let h = calls b v gs in contextOf (h .writer) .ended ≡ true → Kept w (take (offsetOf w) buf) (record { taken = g ∷ h .taken; writer = h .writer; buffer = h .buffer })
+unfolding placeIn placeAfter contextAfter
+one-taken g gs t buf w f rest four e =
+    let n = no-refusal (length buf) w g f in
+    let c : Good (contextOf w) g = good-call (contextOf w) g t (n .0) in
     let vs = bytesOf (written g) in
-    let q = placeBehind p g in
-    let buf' = put buf (p .at) vs in
-    let m : length buf' ≡ length buf = put-length buf (p .at) vs in
-    let room : q .at ≤ length buf' = omega (arith, n .1) in
-    let k : Kept q (take (q .at) buf') (calls buf' q gs) = rest buf' q room e in
-    let ts = calls buf' q gs .taken in
+    let b = put buf (offsetOf w) vs in
+    let v = writerAfter w g in
+    let m : length b ≡ length buf = put-length buf (offsetOf w) vs in
+    let p = place-after w g (omega arith) in
+    let at : offsetOf v ≡ offsetOf w + size (written g) = ap (λ (q : Place). q .at) p in
+    let k : Kept v (take (offsetOf v) b) (calls b v gs) = rest (omega arith) (omega (arith, n .1)) e in
+    let ts = calls b v gs .taken in
     record {
-      good = (c .unended, c .sized, c .kept, k .good);
-      bytes = k .bytes ∙ ap (λ (x : List ℕ). x ++ join bytesOf (map written ts)) (take-record buf p g (n .1)) ∙ append-assoc (take (p .at) buf) vs (join bytesOf (map written ts));
+      good = (c .unended, c .sized, c .kept, subst (λ (q : Place). GoodFrom (q .context) (q .at) (map written ts)) p (k .good));
+      bytes = k .bytes ∙ ap (λ (x : List ℕ). x ++ join bytesOf (map written ts)) (take-record buf w g (n .1)) ∙ append-assoc (take (offsetOf w) buf) vs (join bytesOf (map written ts));
       means = ap₂ _∷_ (c .means) (k .means);
       normal = ap₂ _∷_ (c .normal) (k .normal);
     }
 
-calls-kept : (gs : List Given) → AllWell gs → (buf : List ℕ) (p : Place) → p .at ≤ length buf → calls buf p gs .place .context .ended ≡ true → Kept p (take (p .at) buf) (calls buf p gs)
-unfolding calls callIn
-calls-kept [] h buf p l e = record { good = e; bytes = sym (append-nil (take (p .at) buf)); means = refl; normal = refl }
-calls-kept (g ∷ gs) h buf p l e = one-call g gs (h .0) (calls-kept gs (h .1)) buf p l (broken (checks (length buf) p g)) refl e
+calls-kept : (gs : List Given) → AllWell gs → (buf : List ℕ) (w : Writer) → Keeping gs buf w
+unfolding calls
+calls-kept [] h buf w four l = λ e. record { good = e; bytes = sym (append-nil (take (offsetOf w) buf)); means = refl; normal = refl }
+calls-kept (g ∷ gs) h buf w four l =
+    by-outcome
+    (λ o. let r = calls (o .buffer) (o .answer .writer) gs in contextOf (r .writer) .ended ≡ true → Kept w (take (offsetOf w) buf) (record { taken = ifTaken (o .answer) g (r .taken); writer = r .writer; buffer = r .buffer }))
+    buf w g
+    (λ f. one-taken g gs (h .0) buf w f (calls-kept gs (h .1) (put buf (offsetOf w) (bytesOf (written g))) (writerAfter w g)) four)
+    (λ n f z. rw (ne-eqb n 0 z) (calls-kept gs (h .1) buf w four l))
 
 -- ---- the file of the records taken
 
@@ -96,14 +109,14 @@ meanings-all : (gs : List Given) → meanings (map knownOf gs) ≡ map (λ g. me
 meanings-all [] = refl
 meanings-all (g ∷ gs) = ap (λ (x : List Meaning). meaningOf (g .kind) (written g) ∷ x) (meanings-all gs)
 
-module _ (buf : List ℕ) (l : 4 ≤ length buf) (h : History) (k : Kept firstPlace (take 4 (put buf 0 header)) h) where
-  bytes-are : take (h .place .at) (h .buffer) ≡ fileOf (h .taken)
+module _ (buf : List ℕ) (l : 4 ≤ length buf) (h : History) (k : Kept firstWriter (take 4 (put buf 0 header)) h) where
+  bytes-are : take (offsetOf (h .writer)) (h .buffer) ≡ fileOf (h .taken)
   unfolding fileOf
   bytes-are = k .bytes ∙ ap (λ (x : List ℕ). x ++ join bytesOf (map written (h .taken))) (take-put buf 0 header l)
 
   file-read : Accepted (fileOf (h .taken)) × (recordsOf (fileOf (h .taken)) ≡ map written (h .taken))
-  unfolding fileOf firstPlace
-  file-read = file-complete (map written (h .taken)) (good-chain (map written (h .taken)) start 4 (k .good))
+  unfolding fileOf firstWriter cursorOf firstPlace
+  file-read = file-complete (map written (h .taken)) (good-chain (map written (h .taken)) start 4 (subst (λ (c : Context). GoodFrom c 4 (map written (h .taken))) start-in (k .good)))
 
   sequence-is : sequence (fileOf (h .taken)) ≡ map knownOf (h .taken)
   unfolding sequence
@@ -134,9 +147,10 @@ module _ (buf : List ℕ) (l : 4 ≤ length buf) (h : History) (k : Kept firstPl
         normal = rw bytes-are own-form;
       }
 
-pub any-calls : (buf : List ℕ) (gs : List Given) → 4 ≤ length buf → AllWell gs → let h = fromStart buf gs in h .place .context .ended ≡ true → ReadBack h
-unfolding fromStart firstPlace
+pub any-calls : (buf : List ℕ) (gs : List Given) → 4 ≤ length buf → AllWell gs → let h = fromStart buf gs in contextOf (h .writer) .ended ≡ true → ReadBack h
+unfolding fromStart
 any-calls buf gs l w =
     let b = put buf 0 header in
-    let room : 4 ≤ length b = omega (arith, put-length buf 0 header) in
-    rw (start-is buf l) (λ e. reads-back buf l (calls b firstPlace gs) (calls-kept gs w b firstPlace room e))
+    let four : offsetOf firstWriter ≡ 4 = unfold firstWriter cursorOf firstPlace in refl in
+    let room : offsetOf firstWriter ≤ length b = omega (arith, put-length buf 0 header) in
+    rw (start-is buf l) (λ e. reads-back buf l (calls b firstWriter gs) (subst (λ (n : ℕ). Kept firstWriter (take n b) (calls b firstWriter gs)) four (calls-kept gs w b firstWriter (omega arith) room e)))

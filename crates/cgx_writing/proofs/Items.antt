@@ -22,7 +22,8 @@ use Rattle.cgx_kinds.specs.Meant.{dateNumbers}
 use Rattle.cgx_put.specs.Put.{longsBytes}
 use Rattle.cgx_put.proofs.Puts.{length-longs}
 use Rattle.cgx_put.proofs.Padding.{length-padded}
-use Rattle.cgx_writing.specs.Given.{Item, day, means, dateBytes, stored, noZero, alike, meets, goodList, goodItem, keeping}
+use Rattle.cgx_fields.specs.Zeros.{noZero}
+use Rattle.cgx_writing.specs.Given.{Item, day, means, dateBytes, stored, alike, meets, goodList, goodItem, keeping}
 use Rattle.cgx_writing.specs.Typed.{Longs, IsDate, Typed, a-real, a-scale, a-date, a-short, a-list, a-text, a-name, no-name, not-there}
 
 -- ---- lists of longs

@@ -3,7 +3,7 @@ use Rattle.cgx_writing.specs.Demands.{WriterPromises}
 use Rattle.cgx_writing.proofs.Records.{same-rules}
 use Rattle.cgx_writing.proofs.Histories.{any-calls}
 use Rattle.cgx_writing.proofs.Rooms.{round-trip, no-room}
-use Rattle.cgx_writing.proofs.Stores.{untouched, numbered}
+use Rattle.cgx_writing.proofs.Stores.{untouched, numbered, goes-on}
 use Rattle.cgx_writing.proofs.Calling.{calls-promises}
 use Rattle.cgx_writing.proofs.Specimens.{specimens}
 
@@ -12,7 +12,7 @@ writer-promises =
     record {
       round = record { round-trip = round-trip; no-room = no-room; any-calls = any-calls };
       untouched = untouched;
-      rules = record { same-rules = same-rules; numbered = numbered };
+      rules = record { same-rules = same-rules; numbered = numbered; goes-on = goes-on };
       given = calls-promises;
       specimens = specimens;
     }

@@ -10,7 +10,6 @@ use lib.ListN.{length}
 use Rattle.cgx_spec.specs.declared.Kind.{Kind}
 use Rattle.cgx_spec.specs.declared.Kind.the-variants.{Library, Struct, Cprpty, Property, Layer, Box, Poly, Wire, Text, Sref, Endlib}
 use Rattle.cgx_spec.specs.declared.Context.{Context}
-use Rattle.cgx_spec.specs.declared.Place.{Place}
 use Rattle.cgx_spec.specs.Fields.{Field, pieces, lengthsFit, keeps, values, normalBytes, join}
 use Rattle.cgx_spec.specs.Kinds.{kindOf, Flags, meaningless, version, upTo, orientation, flagsFor, allows, goodFlags, flagsOf, layout}
 use Rattle.cgx_spec.specs.Kinds
@@ -22,9 +21,10 @@ use Rattle.cgx_spec.specs.Written.{Sized}
 use Rattle.cgx_spec.proofs.Lists.{T→true, true→T}
 use Rattle.cgx_spec.proofs.Normal.{flags-again, flags-byte}
 use Rattle.cgx_spec.proofs.Agreement.{agreement}
+use Rattle.cgx_writing.specs.declared.Writer.{Writer}
 use Rattle.cgx_writing.specs.Given.{Given, stored, fieldsOf, enoughGiven, keepsGiven, meant, written}
 use Rattle.cgx_writing.specs.Typed.{WellTyped}
-use Rattle.cgx_writing.specs.Writing.{maxSize, allowedHere, rulesOf, checks}
+use Rattle.cgx_writing.specs.Writing.{offsetOf, contextOf, placeOf, maxSize, allowedHere, rulesOf, checks}
 use Rattle.cgx_writing.proofs.Layouts.{shape, paired, pieces-are, fit-law, keeps-law, values-law, normals-law, body-bytes, body-even}
 
 -- ---- lists of rules
@@ -44,11 +44,11 @@ broken-further (r ∷ rs) n b = one (r .kept) (broken-further rs n b)
     one false e = refl
 
 -- the checks of a call: 16 first, 14 last
-pub checks-are : (n : ℕ) (p : Place) (g : Given) → broken (checks n p g) ≡ cond (forged n p) (some 16) (further (broken (rulesOf (p .context) g)) 14 (leb (p .at + size (written g)) n))
+pub checks-are : (n : ℕ) (w : Writer) (g : Given) → broken (checks n w g) ≡ cond (forged n (placeOf w)) (some 16) (further (broken (rulesOf (contextOf w) g)) 14 (leb (offsetOf w + size (written g)) n))
 unfolding checks
-checks-are n p g = one (forged n p) ∙ ap (cond (forged n p) (some 16)) (broken-further (rulesOf (p .context) g) 14 (leb (p .at + size (written g)) n))
+checks-are n w g = one (forged n (placeOf w)) ∙ ap (cond (forged n (placeOf w)) (some 16)) (broken-further (rulesOf (contextOf w) g) 14 (leb (offsetOf w + size (written g)) n))
   where
-    one : (b : Bool) → broken (rule 16 (not b) ∷ (rulesOf (p .context) g ++ (rule 14 (leb (p .at + size (written g)) n) ∷ []))) ≡ cond b (some 16) (broken (rulesOf (p .context) g ++ (rule 14 (leb (p .at + size (written g)) n) ∷ [])))
+    one : (b : Bool) → broken (rule 16 (not b) ∷ (rulesOf (contextOf w) g ++ (rule 14 (leb (offsetOf w + size (written g)) n) ∷ []))) ≡ cond b (some 16) (broken (rulesOf (contextOf w) g ++ (rule 14 (leb (offsetOf w + size (written g)) n) ∷ [])))
     one true = unfold broken in refl
     one false = unfold broken in refl
 

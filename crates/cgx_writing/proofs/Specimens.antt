@@ -23,8 +23,10 @@ use Rattle.cgx_spec.specs.Specimens.{drawingNormal}
 use Rattle.cgx_spec.proofs.Lists.{¬T→false, Bytes-cons, Bytes-nil}
 use Rattle.cgx_put.specs.Put.{longsBytes}
 use Rattle.cgx_put.proofs.Puts.{length-longs}
-use Rattle.cgx_writing.specs.Given.{dateBytes, stored, groups, enough, noZero, meets, goodList, goodItem, enoughGiven, keepsGiven, written, givenLibrary, givenStruct, givenLayer, givenBox, givenEndlib}
-use Rattle.cgx_writing.specs.Writing.{maxSize, allowedHere, rulesOf, placeBehind, fileOf}
+use Rattle.cgx_cursor.specs.Cursors.{offsetIn, runIn, contextIn, placeIn, stateOf, cursorOf}
+use Rattle.cgx_fields.specs.Zeros.{noZero}
+use Rattle.cgx_writing.specs.Given.{dateBytes, stored, groups, enough, meets, goodList, goodItem, enoughGiven, keepsGiven, written, givenLibrary, givenStruct, givenLayer, givenBox, givenEndlib}
+use Rattle.cgx_writing.specs.Writing.{firstWriter, writerAfter, maxSize, allowedHere, rulesOf, fileOf}
 use Rattle.cgx_writing.specs.Specimens.{begun, ended, drawingCalls}
 use Rattle.cgx_writing.specs.Typed.{Longs, IsDate}
 use Rattle.cgx_writing.specs.Demands.{Whole, Specimens}
@@ -34,8 +36,8 @@ drawing-file : fileOf drawingCalls ≡ drawingNormal
 unfolding fileOf bytesOf written stored dateBytes untwos shortBytes longBytes longsBytes normalReal wordNormal negative exponent mantissa pack lower minus padded flagsOf flagsFor meant typeByte givenLibrary givenStruct givenLayer givenBox givenEndlib
 drawing-file = refl
 
-drawing-whole : Whole firstPlace drawingCalls
-unfolding firstPlace start placeBehind placeAfter contextAfter kindOf broken rulesOf allowed goodFlags allows flagsFor flagsOf meant enoughGiven keepsGiven groups enough noZero meets goodList goodItem layout ruleOf inOrder calendar positiveReal positive wordValue written stored dateBytes untwos shortBytes longBytes longsBytes normalReal wordNormal negative exponent mantissa pack lower minus padded typeByte givenLibrary givenStruct givenLayer givenBox givenEndlib
+drawing-whole : Whole firstWriter drawingCalls
+unfolding firstWriter firstPlace start writerAfter placeAfter placeIn contextIn offsetIn runIn cursorOf stateOf contextAfter kindOf broken rulesOf allowed goodFlags allows flagsFor flagsOf meant enoughGiven keepsGiven groups enough noZero meets goodList goodItem layout ruleOf inOrder calendar positiveReal positive wordValue written stored dateBytes untwos shortBytes longBytes longsBytes normalReal wordNormal negative exponent mantissa pack lower minus padded typeByte givenLibrary givenStruct givenLayer givenBox givenEndlib
 drawing-whole =
     let m = Bytes-cons 0x6d [] (omega arith) Bytes-nil in
     let a = Bytes-cons 0x61 [] (omega arith) Bytes-nil in

@@ -1,31 +1,27 @@
 -- The buffer after a start and after a call: a refusal changes no byte, a taken record only its own, and then the bytes up to the place are one record longer.
 -- Assumes nothing.
-use mathlib.Core.Path.{_≡_, refl, sym, ap, _∙_, subst}
+use mathlib.Core.Path.{_≡_, refl, sym, ap, _∙_}
 use mathlib.Core.Logic.{_⊎_, inl, inr, ⊎-elim}
 use mathlib.Core.Bool.{Bool, true, false, _||_, cond}
 use mathlib.Core.List.{List, [], _∷_, _++_}
-use mathlib.Core.Option.{Option, none, some}
 use Prim.Native.Nat.{ℕ, suc, _+_, _≤_, _<_}
 use native.Mathlib.Omega.{arith}
 use lib.Dec.{T, leb, leb→le, le→leb}
 use lib.ListN.{length, take, drop, getD, set, length-append}
 use lib.Seq.{getD-set-other, take-at, length-take-le}
-use Rattle.cgx_spec.specs.declared.Place.{Place}
-use Rattle.cgx_spec.specs.declared.Offset.{Offset}
-use Rattle.cgx_spec.specs.declared.Offset.the-variants.{Nowhere, At}
 use Rattle.cgx_spec.specs.Dates.{within}
-use Rattle.cgx_spec.specs.Fields.{every}
-use Rattle.cgx_spec.specs.Records.{Rec, size, bytesOf, Rule, broken}
+use Rattle.cgx_spec.specs.Records.{Rec, size, bytesOf}
 use Rattle.cgx_spec.specs.Files.{header}
-use Rattle.cgx_spec.specs.Walking.{firstPlace, placeAfter}
-use Rattle.cgx_spec.proofs.Lists.{T→true, true→T, ¬T→false, and-left, and-right, every-cons}
+use Rattle.cgx_spec.specs.Walking.{placeAfter}
+use Rattle.cgx_spec.proofs.Lists.{T→true, true→T, ¬T→false, and-left, and-right}
+use Rattle.cgx_cursor.specs.Cursors.{cursorOf}
 use Rattle.cgx_put.specs.Put.{put}
 use Rattle.cgx_put.proofs.Puts.{put-is, put-length}
-use Rattle.cgx_writing.specs.declared.Started.the-variants.{Ready, Refused as NotBegun}
-use Rattle.cgx_writing.specs.declared.Answer.the-variants.{Refused}
+use Rattle.cgx_writing.specs.declared.Writer.{Writer}
 use Rattle.cgx_writing.specs.Given.{Given, written}
-use Rattle.cgx_writing.specs.Writing.{rulesOf, checks, named, placeBehind, settled, callIn, Begun, startIn, placeOf}
+use Rattle.cgx_writing.specs.Writing.{offsetOf, writerAfter, named, callIn, Begun, startIn}
 use Rattle.cgx_writing.specs.Demands.{Untouched}
+use Rattle.cgx_writing.proofs.Calls.{numbers, check-numbers, taken, by-outcome}
 
 -- ---- stores
 
@@ -50,75 +46,44 @@ length-bytes r = omega arith
 
 -- ---- one call
 
-refusal : (buf : List ℕ) (p q : Place) (g : Given) (n : ℕ) (at : Offset) → callIn buf p g .answer ≡ Refused n at q → (callIn buf p g .buffer ≡ buf) × (q ≡ p)
-unfolding callIn settled
-refusal buf p q g n at e = one (broken (checks (length buf) p g)) e
-  where
-    one : (m : Option ℕ) → settled buf p g m .answer ≡ Refused n at q → (settled buf p g m .buffer ≡ buf) × (q ≡ p)
-    one none e = absurd (let z : _≡_ {A = ℕ} 0 1 = cc in omega arith)
-    one (some m) e = (refl, cc)
+refusal : (buf : List ℕ) (w : Writer) (g : Given) → let o = callIn buf w g in (o .answer .number ≡ 0 → ⊥) → (o .buffer ≡ buf) × (o .answer .writer ≡ w)
+refusal buf w g = by-outcome (λ o. (o .answer .number ≡ 0 → ⊥) → (o .buffer ≡ buf) × (o .answer .writer ≡ w)) buf w g (λ e h. absurd (h refl)) (λ n e z h. (refl, refl))
 
--- the bytes up to the new place
-pub take-record : (buf : List ℕ) (p : Place) (g : Given) → p .at + size (written g) ≤ length buf → let w = settled buf p g none in take (placeOf (w .answer) .at) (w .buffer) ≡ take (p .at) buf ++ bytesOf (written g)
-unfolding settled placeBehind placeAfter
-take-record buf p g l =
+-- the bytes up to the writer after a record
+pub take-record : (buf : List ℕ) (w : Writer) (g : Given) → offsetOf w + size (written g) ≤ length buf → take (offsetOf (writerAfter w g)) (put buf (offsetOf w) (bytesOf (written g))) ≡ take (offsetOf w) buf ++ bytesOf (written g)
+unfolding writerAfter cursorOf placeAfter
+take-record buf w g l =
     let vs = bytesOf (written g) in
     let n = length-bytes (written g) in
-    ap (λ (x : ℕ). take (p .at + x) (put buf (p .at) vs)) (sym n) ∙ take-put buf (p .at) vs (omega arith)
+    ap (λ (x : ℕ). take (offsetOf w + x) (put buf (offsetOf w) vs)) (sym n) ∙ take-put buf (offsetOf w) vs (omega arith)
 
-outside : (buf : List ℕ) (p : Place) (g : Given) (i : ℕ) → let o = callIn buf p g in (i < p .at) ⊎ (placeOf (o .answer) .at ≤ i) → getD (o .buffer) i 0 ≡ getD buf i 0
-unfolding callIn settled placeBehind placeAfter
-outside buf p g i h = one (broken (checks (length buf) p g)) h
-  where
-    one : (n : Option ℕ) → let o = settled buf p g n in (i < p .at) ⊎ (placeOf (o .answer) .at ≤ i) → getD (o .buffer) i 0 ≡ getD buf i 0
-    one none h = put-other buf (p .at) (bytesOf (written g)) i (⊎-elim (λ a. inl a) (λ b. inr (omega (arith, length-bytes (written g)))) h)
-    one (some n) h = refl
+outside : (buf : List ℕ) (w : Writer) (g : Given) (i : ℕ) → let o = callIn buf w g in (i < offsetOf w) ⊎ (offsetOf (o .answer .writer) ≤ i) → getD (o .buffer) i 0 ≡ getD buf i 0
+unfolding writerAfter cursorOf placeAfter
+outside buf w g i =
+    by-outcome (λ o. (i < offsetOf w) ⊎ (offsetOf (o .answer .writer) ≤ i) → getD (o .buffer) i 0 ≡ getD buf i 0) buf w g
+    (λ e h. put-other buf (offsetOf w) (bytesOf (written g)) i (⊎-elim (λ a. inl a) (λ b. inr (omega (arith, length-bytes (written g)))) h))
+    (λ n e z h. refl)
 
-length-stays : (buf : List ℕ) (p : Place) (g : Given) → length (callIn buf p g .buffer) ≡ length buf
-unfolding callIn settled
-length-stays buf p g = one (broken (checks (length buf) p g))
-  where
-    one : (n : Option ℕ) → length (settled buf p g n .buffer) ≡ length buf
-    one none = put-length buf (p .at) (bytesOf (written g))
-    one (some n) = refl
+length-stays : (buf : List ℕ) (w : Writer) (g : Given) → length (callIn buf w g .buffer) ≡ length buf
+length-stays buf w g = by-outcome (λ o. length (o .buffer) ≡ length buf) buf w g (λ e. put-length buf (offsetOf w) (bytesOf (written g))) (λ n e z. refl)
 
--- ---- the numbers of refusals
+-- ---- the answer
 
-abbrev numbers : ℕ → Bool
-numbers n = within 6 12 n || within 14 16 n
-
-broken-numbers : (rs : List Rule) → T (every (λ r. numbers (r .number)) rs) → (n : ℕ) → broken rs ≡ some n → T (numbers n)
-unfolding broken
-broken-numbers [] t n e = absurd (let z : _≡_ {A = ℕ} 0 1 = cc in omega arith)
-broken-numbers (r ∷ rs) t n e =
-    let ts = every-cons (λ r. numbers (r .number)) r rs t in
-    one (r .kept) (broken-numbers rs (ts .1) n) (ts .0) e
-  where
-    one : (k : Bool) → (broken rs ≡ some n → T (numbers n)) → T (numbers (r .number)) → cond k (broken rs) (some (r .number)) ≡ some n → T (numbers n)
-    one true f h e = f e
-    one false f h e = subst (λ (m : ℕ). T (numbers m)) (let q : r .number ≡ n = cc in q) h
-
-named-by : (at n : ℕ) → T (numbers n) → ((6 ≤ n) × (n ≤ 12) × (named n at ≡ At at)) ⊎ ((14 ≤ n) × (n ≤ 16) × (named n at ≡ Nowhere))
+named-by : (at n : ℕ) → T (numbers n) → ((6 ≤ n) × (n ≤ 12) × (named n at ≡ at)) ⊎ ((14 ≤ n) × (n ≤ 16) × (named n at ≡ 0))
 named-by at n t = one (within 6 12 n) refl t
   where
-    one : (b : Bool) → within 6 12 n ≡ b → T (b || within 14 16 n) → ((6 ≤ n) × (n ≤ 12) × (cond b (At at) Nowhere ≡ At at)) ⊎ ((14 ≤ n) × (n ≤ 16) × (cond b (At at) Nowhere ≡ Nowhere))
+    one : (b : Bool) → within 6 12 n ≡ b → T (b || within 14 16 n) → ((6 ≤ n) × (n ≤ 12) × (cond b at 0 ≡ at)) ⊎ ((14 ≤ n) × (n ≤ 16) × (cond b at 0 ≡ 0))
     one true e t = let h = true→T e in inl (leb→le 6 n (and-left (leb 6 n) (leb n 12) h), leb→le n 12 (and-right (leb 6 n) (leb n 12) h), refl)
     one false e t = inr (leb→le 14 n (and-left (leb 14 n) (leb n 16) t), leb→le n 16 (and-right (leb 14 n) (leb n 16) t), refl)
 
-pub numbered : (buf : List ℕ) (p q : Place) (g : Given) (n : ℕ) (at : Offset) → callIn buf p g .answer ≡ Refused n at q
-    → ((6 ≤ n) × (n ≤ 12) × (at ≡ At (p .at))) ⊎ ((14 ≤ n) × (n ≤ 16) × (at ≡ Nowhere))
-unfolding callIn settled checks rulesOf
-numbered buf p q g n at e = one (broken (checks (length buf) p g)) (broken-numbers (checks (length buf) p g) tt) e
-  where
-    one : (o : Option ℕ) → ((m : ℕ) → o ≡ some m → T (numbers m)) → settled buf p g o .answer ≡ Refused n at q
-        → ((6 ≤ n) × (n ≤ 12) × (at ≡ At (p .at))) ⊎ ((14 ≤ n) × (n ≤ 16) × (at ≡ Nowhere))
-    one none h e = absurd (let z : _≡_ {A = ℕ} 0 1 = cc in omega arith)
-    one (some m) h e =
-        let a : named m (p .at) ≡ at = cc in
-        let b : m ≡ n = cc in
-        ⊎-elim (λ x. inl (subst (λ (k : ℕ). 6 ≤ k) b (x .0), subst (λ (k : ℕ). k ≤ 12) b (x .1), sym a ∙ x .2))
-        (λ x. inr (subst (λ (k : ℕ). 14 ≤ k) b (x .0), subst (λ (k : ℕ). k ≤ 16) b (x .1), sym a ∙ x .2))
-        (named-by (p .at) m (h m refl))
+pub numbered : (buf : List ℕ) (w : Writer) (g : Given) → let a = callIn buf w g .answer in (a .number ≡ 0 → ⊥)
+    → ((6 ≤ a .number) × (a .number ≤ 12) × (a .at ≡ offsetOf w)) ⊎ ((14 ≤ a .number) × (a .number ≤ 16) × (a .at ≡ 0))
+numbered buf w g =
+    by-outcome (λ o. let a = o .answer in (a .number ≡ 0 → ⊥) → ((6 ≤ a .number) × (a .number ≤ 12) × (a .at ≡ offsetOf w)) ⊎ ((14 ≤ a .number) × (a .number ≤ 16) × (a .at ≡ 0))) buf w g
+    (λ e h. absurd (h refl)) (λ n e z h. named-by (offsetOf w) n (check-numbers (length buf) w g n e))
+
+pub goes-on : (buf : List ℕ) (w : Writer) (g : Given) → let a = callIn buf w g .answer in a .number ≡ 0 → a ≡ record { number = 0; at = 0; writer = writerAfter w g }
+goes-on buf w g = by-outcome (λ o. o .answer .number ≡ 0 → o .answer ≡ taken w g) buf w g (λ e h. refl) (λ n e z h. absurd (z h))
 
 -- ---- the start
 
@@ -126,11 +91,11 @@ pub start-is : (buf : List ℕ) → 4 ≤ length buf → startIn buf .buffer ≡
 unfolding startIn
 start-is buf l = let e : leb 4 (length buf) ≡ true = T→true (le→leb 4 (length buf) l) in rw e
 
-start-short : (buf : List ℕ) → length buf < 4 → startIn buf ≡ record { answer = NotBegun 14 Nowhere; buffer = buf }
+start-short : (buf : List ℕ) → length buf < 4 → startIn buf ≡ record { answer = 14; buffer = buf }
 unfolding startIn
 start-short buf l = let e : leb 4 (length buf) ≡ false = ¬T→false (λ t. let h = leb→le 4 (length buf) t in omega arith) in rw e
 
-start-stores : (buf : List ℕ) → 4 ≤ length buf → (startIn buf .answer ≡ Ready firstPlace) × (take 4 (startIn buf .buffer) ≡ header) × (length (startIn buf .buffer) ≡ length buf)
+start-stores : (buf : List ℕ) → 4 ≤ length buf → (startIn buf .answer ≡ 0) × (take 4 (startIn buf .buffer) ≡ header) × (length (startIn buf .buffer) ≡ length buf)
 unfolding startIn
 start-stores buf l = let e : leb 4 (length buf) ≡ true = T→true (le→leb 4 (length buf) l) in rw e (refl, take-put buf 0 header l, put-length buf 0 header)
 
@@ -138,7 +103,7 @@ start-outside : (buf : List ℕ) (i : ℕ) → 4 ≤ i → getD (startIn buf .bu
 unfolding startIn
 start-outside buf i l = one (leb 4 (length buf))
   where
-    one : (b : Bool) → getD (cond {A = Begun} b (record { answer = Ready firstPlace; buffer = put buf 0 header }) (record { answer = NotBegun 14 Nowhere; buffer = buf }) .buffer) i 0 ≡ getD buf i 0
+    one : (b : Bool) → getD (cond {A = Begun} b (record { answer = 0; buffer = put buf 0 header }) (record { answer = 14; buffer = buf }) .buffer) i 0 ≡ getD buf i 0
     one true = put-other buf 0 header i (inr l)
     one false = refl
 

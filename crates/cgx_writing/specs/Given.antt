@@ -13,7 +13,7 @@ use Rattle.cgx_spec.specs.Numbers.{shortBytes}
 use Rattle.cgx_spec.specs.Reals.{realOf, positiveReal, normalReal}
 use Rattle.cgx_spec.specs.Dates.{calendar}
 use Rattle.cgx_spec.specs.Strings.{padded}
-use Rattle.cgx_spec.specs.Fields.{any, counts, ordered, closed, Test, Field, real, positive, date, short, longs, string, optional, absent, Value, missing, exactly, numbers, text, ones, inOrder, ruleOf, every, join}
+use Rattle.cgx_spec.specs.Fields.{any, counts, ordered, closed, Test, Field, real, positive, date, short, longs, string, optional, absent, Value, missing, exactly, numbers, text, ones, inOrder, ruleOf, join}
 use Rattle.cgx_spec.specs.Kinds.{flagsOf, layout, angle, magnif, array}
 use Rattle.cgx_spec.specs.Records.{Rec, Meaning}
 use Rattle.cgx_spec.specs.Restated.{typeByte}
@@ -22,6 +22,7 @@ use Rattle.cgx_kinds.specs.declared.LayerNo.{LayerNo}
 use Rattle.cgx_kinds.specs.declared.DataType.{DataType}
 use Rattle.cgx_kinds.specs.declared.Point.{Point}
 use Rattle.cgx_kinds.specs.Meant.{dateNumbers}
+use Rattle.cgx_fields.specs.Zeros.{noZero}
 use Rattle.cgx_put.specs.Put.{longsBytes}
 use Rattle.cgx_writing.specs.declared.EndStyle.{EndStyle}
 use Rattle.cgx_writing.specs.declared.EndStyle.the-variants.{Unstated, Stated}
@@ -62,7 +63,7 @@ stored (list zs) = longsBytes zs
 stored (words t) = padded t
 stored nothing = []
 
--- ---- the rules on what is given: `calendar`, `positiveReal`, `ones` and `inOrder` are the reader's own
+-- ---- the rules on what is given: `calendar`, `positiveReal`, `ones`, `inOrder` and `noZero` are the reader's own
 
 -- 8: "Too few boxes or pairs, or a list that ends inside one"; too many is 15.
 unfoldable pub groups : Field → List ℤ → Bool
@@ -82,10 +83,6 @@ enough f (small z) = true
 enough f (list zs) = groups f zs
 enough f (words t) = true
 enough f nothing = true
-
--- 11: "a zero byte in a text"
-unfoldable pub noZero : List ℕ → Bool
-noZero t = every (λ b. not (eqb b 0)) t
 
 -- The same numbers.
 unfoldable pub alike : List ℤ → List ℤ → Bool
@@ -111,7 +108,7 @@ goodList string zs = true
 goodList optional zs = true
 goodList absent zs = true
 
--- What the rule of a field asks of its item; a field that has no rule (`ruleOf` is 0) is not looked at.
+-- What the rule of a field asks of its item, of a text that it has no zero byte (11); a field that has no rule (`ruleOf` is 0) is not looked at.
 unfoldable pub goodItem : Field → Item → Bool
 goodItem f (eight b) = positiveReal b
 goodItem f (day d) = calendar (dateBytes d)

@@ -3,12 +3,10 @@ use mathlib.Core.Bool.{Bool, not, _&&_, cond}
 use mathlib.Core.List.{List, [], _∷_, _++_, map}
 use mathlib.Core.Option.{Option, none, some}
 use Prim.Native.Nat.{ℕ, _+_}
-use lib.Dec.{leb}
+use lib.Dec.{leb, eqb}
 use lib.ListN.{length}
 use Rattle.cgx_spec.specs.declared.Context.{Context}
 use Rattle.cgx_spec.specs.declared.Place.{Place}
-use Rattle.cgx_spec.specs.declared.Offset.{Offset}
-use Rattle.cgx_spec.specs.declared.Offset.the-variants.{Nowhere, At}
 use Rattle.cgx_spec.specs.Dates.{within}
 use Rattle.cgx_spec.specs.Fields.{join}
 use Rattle.cgx_spec.specs.Kinds.{goodFlags}
@@ -16,12 +14,34 @@ use Rattle.cgx_spec.specs.Order.{allowed}
 use Rattle.cgx_spec.specs.Records.{size, bytesOf, Rule, rule, broken}
 use Rattle.cgx_spec.specs.Files.{header}
 use Rattle.cgx_spec.specs.Walking.{firstPlace, placeAfter, forged}
+use Rattle.cgx_cursor.specs.Cursors.{contextIn, placeIn, cursorOf}
 use Rattle.cgx_put.specs.Put.{put}
-use Rattle.cgx_writing.specs.declared.Started.{Started}
-use Rattle.cgx_writing.specs.declared.Started.the-variants.{Ready, Refused as NotBegun}
+use Rattle.cgx_writing.specs.declared.Writer.{Writer}
 use Rattle.cgx_writing.specs.declared.Answer.{Answer}
-use Rattle.cgx_writing.specs.declared.Answer.the-variants.{Taken, Refused}
 use Rattle.cgx_writing.specs.Given.{Given, enoughGiven, keepsGiven, written}
+
+-- ---- a writer
+
+-- Where its next record would begin, and what it has written before that.
+abbrev pub offsetOf : Writer → ℕ
+offsetOf w = w .cursor .at
+
+abbrev pub contextOf : Writer → Context
+contextOf w = contextIn (w .cursor .state)
+
+abbrev pub placeOf : Writer → Place
+placeOf w = placeIn (w .cursor)
+
+abbrev pub writerAt : Place → Writer
+writerAt p = record { cursor = cursorOf p }
+
+-- The writer of a fresh start.
+unfoldable pub firstWriter : Writer
+firstWriter = writerAt firstPlace
+
+-- The writer after a record: its place is that of a walk that has read the record.
+unfoldable pub writerAfter : Writer → Given → Writer
+writerAfter w g = writerAt (placeAfter (record { at = offsetOf w; context = contextOf w; rec = written g }))
 
 -- ---- the rules
 
@@ -33,7 +53,7 @@ maxSize = 65534
 abbrev pub allowedHere : Context → Given → Bool
 allowedHere c g = not (c .ended) && allowed c (some (g .kind))
 
--- 6, 7 to 12, 15: what the record itself breaks behind this context.
+-- 6, 7 to 12, 15: what the record itself breaks after this context.
 unfoldable pub rulesOf : Context → Given → List Rule
 rulesOf c g =
     rule 6 (allowedHere c g) ∷ rule 7 (goodFlags (g .kind) (g .flags)) ∷ rule 8 (enoughGiven g) ∷ rule 9 (keepsGiven 9 g) ∷ rule 10 (keepsGiven 10 g)
@@ -43,71 +63,69 @@ rulesOf c g =
     ∷ []
 
 -- "It checks 16 (as for a walk, against the buffer), 6, 7 to 12, 15, then 14." The buffer has n bytes.
-unfoldable pub checks : ℕ → Place → Given → List Rule
-checks n p g = rule 16 (not (forged n p)) ∷ (rulesOf (p .context) g ++ (rule 14 (leb (p .at + size (written g)) n) ∷ []))
+unfoldable pub checks : ℕ → Writer → Given → List Rule
+checks n w g = rule 16 (not (forged n (placeOf w))) ∷ (rulesOf (contextOf w) g ++ (rule 14 (leb (offsetOf w + size (written g)) n) ∷ []))
 
--- "The record's place is where it would begin": 6 to 12 name it, "a later number with no place stated names none".
-abbrev pub named : ℕ → ℕ → Offset
-named n at = cond (within 6 12 n) (At at) Nowhere
+-- "The record's place is where it would begin": 6 to 12 name it, "a later number with no place stated names none", which is 0.
+abbrev pub named : ℕ → ℕ → ℕ
+named n at = cond (within 6 12 n) at 0
 
 -- ---- one call
 
--- The place after the record: that of a walk that has read it.
-unfoldable pub placeBehind : Place → Given → Place
-placeBehind p g = placeAfter (record { at = p .at; context = p .context; rec = written g })
+-- What is answered where no rule is broken, or the one with this number.
+unfoldable pub answered : Writer → Given → Option ℕ → Answer
+answered w g none = record { number = 0; at = 0; writer = writerAfter w g }
+answered w g (some n) = record { number = n; at = named n (offsetOf w); writer = w }
+
+-- What a call answers where the buffer has n bytes.
+unfoldable pub planned : ℕ → Writer → Given → Answer
+planned n w g = answered w g (broken (checks n w g))
 
 -- The answer, and the buffer as the call leaves it.
 pub record Outcome : Type 0 where
   pub answer : Answer
   pub buffer : List ℕ
 
--- What comes of the number of a refusal, or of none.
-unfoldable pub settled : List ℕ → Place → Given → Option ℕ → Outcome
-settled buf p g none = record { answer = Taken (placeBehind p g); buffer = put buf (p .at) (bytesOf (written g)) }
-settled buf p g (some n) = record { answer = Refused n (named n (p .at)) p; buffer = buf }
+abbrev pub isTaken : Answer → Bool
+isTaken a = eqb (a .number) 0
 
-unfoldable pub callIn : List ℕ → Place → Given → Outcome
-callIn buf p g = settled buf p g (broken (checks (length buf) p g))
+unfoldable pub callIn : List ℕ → Writer → Given → Outcome
+callIn buf w g =
+    let a = planned (length buf) w g in
+    record { answer = a; buffer = cond (isTaken a) (put buf (offsetOf w) (bytesOf (written g))) buf }
 
 -- ---- the start
 
+-- The number, 0 where `firstWriter` may go on, and the buffer.
 pub record Begun : Type 0 where
-  pub answer : Started
+  pub answer : ℕ
   pub buffer : List ℕ
 
 -- "The writer starts with the four bytes (14 if the buffer is shorter)."
 unfoldable pub startIn : List ℕ → Begun
-startIn buf =
-    cond (leb 4 (length buf))
-    (record { answer = Ready firstPlace; buffer = put buf 0 header })
-    (record { answer = NotBegun 14 Nowhere; buffer = buf })
+startIn buf = cond (leb 4 (length buf)) (record { answer = 0; buffer = put buf 0 header }) (record { answer = 14; buffer = buf })
 
 -- ---- calls one after another
-
-abbrev pub placeOf : Answer → Place
-placeOf (Taken p) = p
-placeOf (Refused n o p) = p
 
 pub record History : Type 0 where
   -- what was given to the calls that were taken
   pub taken : List Given
-  pub place : Place
+  pub writer : Writer
   pub buffer : List ℕ
 
 abbrev pub ifTaken : Answer → Given → List Given → List Given
-ifTaken (Taken p) g gs = g ∷ gs
-ifTaken (Refused n o p) g gs = gs
+ifTaken a g gs = cond (isTaken a) (g ∷ gs) gs
 
-unfoldable pub calls : List ℕ → Place → List Given → History
-calls buf p [] = record { taken = []; place = p; buffer = buf }
-calls buf p (g ∷ gs) =
-    let w = callIn buf p g in
-    let h = calls (w .buffer) (placeOf (w .answer)) gs in
-    record { taken = ifTaken (w .answer) g (h .taken); place = h .place; buffer = h .buffer }
+unfoldable pub calls : List ℕ → Writer → List Given → History
+calls buf w [] = record { taken = []; writer = w; buffer = buf }
+calls buf w (g ∷ gs) =
+    let o = callIn buf w g in
+    let h = calls (o .buffer) (o .answer .writer) gs in
+    record { taken = ifTaken (o .answer) g (h .taken); writer = h .writer; buffer = h .buffer }
 
 -- "from a fresh start"
 unfoldable pub fromStart : List ℕ → List Given → History
-fromStart buf gs = calls (startIn buf .buffer) firstPlace gs
+fromStart buf gs = calls (startIn buf .buffer) firstWriter gs
 
 -- The bytes of the four and of the records.
 unfoldable pub fileOf : List Given → List ℕ

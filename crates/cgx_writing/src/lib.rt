@@ -1,18 +1,27 @@
 // What a call of the writer is given, and what it answers: the types that the definitions in specs/ and the writer's code share. And what plans, stores
-// and calls share: a date's bytes, the size of an SREF, and that a list of longs is one.
+// and calls share: a date's bytes, that a list of longs is one, and the size of each kind's record.
 ghost use mathlib.Core.Path.{_≡_};
-ghost use Prim.Native.Nat.{_≤_};
+ghost use Prim.Native.Nat.{_+_, _*_, _/_, _≤_};
 ghost use lib.ListN.{length};
 ghost use Rattle.cgx_writing.specs.Given.{dateBytes, styleOf};
 ghost use Rattle.cgx_writing.specs.Typed.{Longs};
 ghost use Rattle.cgx_writing.specs.Srefs.{widthIf, srefSize};
+ghost use Rattle.cgx_writing.specs.Writing.{firstWriter};
+use cgx_cursor::Cursor;
+use cgx_kinds::Boxes;
 use cgx_kinds::Date;
+use cgx_kinds::Layer;
+use cgx_kinds::Library;
 use cgx_kinds::Point;
+use cgx_kinds::Poly;
+use cgx_kinds::Property;
 use cgx_kinds::Sref;
+use cgx_kinds::Struct;
+use cgx_kinds::Text;
+use cgx_kinds::Wire;
+use cgx_numbers::LONG_SIZE;
 use cgx_numbers::WordBytes;
 use cgx_numbers::short_bytes;
-use cgx_spec::Offset;
-use cgx_spec::Place;
 
 // ---- what is given
 
@@ -77,23 +86,81 @@ pub fn all_longs(zs: &[i32])
 
 // ---- what is answered
 
-// What starting a writer answers: 14 names no place.
-pub enum Started {
-    Ready(Place),
-    Refused { number: u8, at: Offset },
+// A writer between two calls. Only its place is kept: where its next record would begin, and what it has written before that.
+pub struct Writer {
+    pub cursor: Cursor,
 }
 
-// What a call answers: the place after the record, or the number, the place that it names, and the old place.
-pub enum Answer {
-    Taken(Place),
-    Refused {
-        number: u8,
-        at: Offset,
-        place: Place,
-    },
+impl Writer {
+    // After the first four bytes.
+    pub fn start() -> Writer
+        ensures { λ r. ⌜ r ≡ firstWriter ⌝ }
+    {
+        Writer {
+            cursor: Cursor::start(),
+        }
+    }
 }
 
-// ---- sizes
+// What a call answers: 0 and the writer after the record; or the number of the refusal, the offset that it names and the writer as it was given. No record has offset 0, so
+// that 0 is none.
+pub struct Answer {
+    pub number: u8,
+    pub at: usize,
+    pub writer: Writer,
+}
+
+// ---- sizes: of the record that each call writes
+
+// LIBRARY, STRUCT, CPRPTY, PROPERTY, a LAYER with a name and TEXT end in a text: their smallest size has the empty one, and each whole pair of bytes adds two.
+pub fn library_size(name: &[u8]) -> usize
+    ensures { λ r. ⌜ r ≡ 38 + length (now (name .entry)) / 2 * 2 ⌝ }
+{
+    Library::MIN_SIZE + name.len() / 2 * 2
+}
+
+pub fn struct_size(name: &[u8]) -> usize
+    ensures { λ r. ⌜ r ≡ 22 + length (now (name .entry)) / 2 * 2 ⌝ }
+{
+    Struct::MIN_SIZE + name.len() / 2 * 2
+}
+
+// A CPRPTY or a PROPERTY.
+pub fn property_size(value: &[u8]) -> usize
+    ensures { λ r. ⌜ r ≡ 10 + length (now (value .entry)) / 2 * 2 ⌝ }
+{
+    Property::MIN_SIZE + value.len() / 2 * 2
+}
+
+pub fn named_size(name: &[u8]) -> usize
+    ensures { λ r. ⌜ r ≡ 10 + length (now (name .entry)) / 2 * 2 ⌝ }
+{
+    Layer::MIN_NAMED_SIZE + name.len() / 2 * 2
+}
+
+pub fn text_size(label: &[u8]) -> usize
+    ensures { λ r. ⌜ r ≡ 18 + length (now (label .entry)) / 2 * 2 ⌝ }
+{
+    Text::MIN_SIZE + label.len() / 2 * 2
+}
+
+pub fn box_size(sides: &[i32]) -> usize
+    ensures { λ r. ⌜ r ≡ 4 + 4 * length (now (sides .entry)) ⌝ }
+{
+    Boxes::BASE_SIZE + LONG_SIZE * sides.len()
+}
+
+pub fn poly_size(points: &[i32]) -> usize
+    ensures { λ r. ⌜ r ≡ 4 + 4 * length (now (points .entry)) ⌝ }
+{
+    Poly::BASE_SIZE + LONG_SIZE * points.len()
+}
+
+pub fn wire_size(points: &[i32]) -> usize
+    ensures { λ r. ⌜ r ≡ 8 + 4 * length (now (points .entry)) ⌝ }
+{
+    Wire::BASE_SIZE + LONG_SIZE * points.len()
+}
 
 // The size of an SREF with these flags and this name.
 pub fn sref_size(flags: u8, name: &[u8]) -> usize
@@ -105,9 +172,9 @@ pub fn sref_size(flags: u8, name: &[u8]) -> usize
     Sref::MIN_SIZE + angle + magnif + array + name.len() / 2 * 2
 }
 
-// The bytes of a field that stands only where its flag is set.
-fn width_if(stands: bool, width: usize) -> usize
-    ensures { λ r. ⌜ (r ≡ widthIf stands width) × (r ≤ width) ⌝ }
+// The bytes of a field that is there only where its flag is set.
+fn width_if(set: bool, width: usize) -> usize
+    ensures { λ r. ⌜ (r ≡ widthIf set width) × (r ≤ width) ⌝ }
 {
-    if stands { width } else { 0 }
+    if set { width } else { 0 }
 }
