@@ -15,8 +15,9 @@ use Rattle.cgx_spec.specs.Kinds.{flagsFor, allows, goodFlags, layout}
 use Rattle.cgx_spec.specs.Records.{broken}
 use Rattle.cgx_spec.proofs.Lists.{and-true}
 use Rattle.cgx_bodies.specs.Bodies.{numberOr0}
+use Rattle.cgx_fields.specs.Zeros.{noZero}
 use Rattle.cgx_kinds.specs.declared.Date.{Date}
-use Rattle.cgx_writing.specs.Given.{dateBytes, enough, groups, noZero, meets, goodItem, goodList, enoughGiven, keepsGiven, givenLibrary, givenStruct, givenCprpty, givenProperty}
+use Rattle.cgx_writing.specs.Given.{dateBytes, enough, groups, meets, goodItem, goodList, enoughGiven, keepsGiven, givenLibrary, givenStruct, givenCprpty, givenProperty}
 use Rattle.cgx_plans.specs.Plans.{textFault, givenFault}
 
 -- ---- one rule

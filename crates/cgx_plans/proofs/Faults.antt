@@ -13,13 +13,13 @@ use Rattle.cgx_spec.specs.Fields.{inOrder, ruleOf}
 use Rattle.cgx_spec.specs.Kinds.{flagsFor, allows, goodFlags, layout}
 use Rattle.cgx_spec.specs.Records.{broken}
 use Rattle.cgx_bodies.specs.Bodies.{numberOr0}
-use Rattle.cgx_fields.specs.Zeros
+use Rattle.cgx_fields.specs.Zeros.{noZero}
 use Rattle.cgx_kinds.specs.declared.Point.{Point}
 use Rattle.cgx_writing.specs.declared.EndStyle.{EndStyle}
 use Rattle.cgx_kinds.specs.declared.LayerNo.{LayerNo}
 use Rattle.cgx_kinds.specs.declared.DataType.{DataType}
-use Rattle.cgx_writing.specs.Given.{enough, groups, goodItem, goodList, meets, enoughGiven, keepsGiven, noZero, styleOf, givenLayer, givenBox, givenWire, givenText, givenEndlib}
-use Rattle.cgx_plans.specs.Plans.{textFault, givenFault}
+use Rattle.cgx_writing.specs.Given.{enough, groups, goodItem, goodList, meets, enoughGiven, keepsGiven, styleOf, givenLayer, givenBox, givenWire, givenText, givenEndlib}
+use Rattle.cgx_plans.specs.Plans.{textFault, wireFault, givenFault}
 
 -- ---- LAYER without a name
 
@@ -58,14 +58,8 @@ module _ (zs : List ℤ) where
 
 -- ---- a text
 
--- the reader's test of a text without its zero bytes
-pub zeros-same : (t : List ℕ) → Zeros.noZero t ≡ noZero t
-unfolding Zeros.noZero noZero
-zeros-same [] = refl
-zeros-same (a ∷ t) = ap (λ (b : Bool). not (eqb a 0) && b) (zeros-same t)
-
-pub text-fault : (t : List ℕ) (b : Bool) → b ≡ Zeros.noZero t → cond b 0 11 ≡ textFault t
-text-fault t b e = ap (λ (x : Bool). cond x 0 11) (e ∙ zeros-same t)
+pub text-fault : (t : List ℕ) (b : Bool) → b ≡ noZero t → cond b 0 11 ≡ textFault t
+text-fault t b e = ap (λ (x : Bool). cond x 0 11) e
 
 eleven : (b : Bool) → cond b 0 11 ≡ numberOr0 (cond (b && true) none (some 11))
 eleven true = refl
@@ -89,21 +83,22 @@ pairs-few l h = few 2 l (eqb (l % 2) 0) refl (lt-leb 1 (l / 2) (omega arith))
 pub pairs-enough : (l : ℕ) → l % 2 ≡ 0 → 2 ≤ l → (eqb (l % 2) 0 && leb 1 (l / 2)) ≡ true
 pairs-enough l e h = simp (eq-eqb (l % 2) 0 e, le-leb 1 (l / 2) (omega arith))
 
-module _ (s : EndStyle) (w : ℤ) (zs : List ℤ) where
-  wire-fault : cond (leb (styleOf s) 2) (cond (eqb (length zs % 2) 0 && leb 1 (length zs / 2)) 0 8) 7 ≡ givenFault (givenWire s w zs)
-  unfolding givenFault givenWire broken goodFlags allows flagsFor enoughGiven layout keepsGiven enough groups goodItem goodList meets ruleOf
-  wire-fault = one (leb (styleOf s) 2) (eqb (length zs % 2) 0 && leb 1 (length zs / 2))
-    where
-      one : (a b : Bool) → cond a (cond b 0 8) 7 ≡ numberOr0 (cond a (cond (b && true) none (some 8)) (some 7))
-      one true true = refl
-      one true false = refl
-      one false b = refl
+pub wire-style : (s fl n : ℕ) → fl ≡ s → 2 < fl → 7 ≡ wireFault s n
+unfolding wireFault
+wire-style s fl n q h = let t : leb s 2 ≡ false = lt-leb s 2 (omega arith) in rw t
 
-  pub wire-style : (fl : ℕ) → fl ≡ styleOf s → 2 < fl → 7 ≡ givenFault (givenWire s w zs)
-  wire-style fl q h = sym (ap (λ (b : Bool). cond b (cond (eqb (length zs % 2) 0 && leb 1 (length zs / 2)) 0 8) 7) (lt-leb (styleOf s) 2 (omega arith))) ∙ wire-fault
+pub wire-is : (s fl n : ℕ) → fl ≡ s → (b : Bool) → fl ≤ 2 → (eqb (n % 2) 0 && leb 1 (n / 2)) ≡ b → cond b 0 8 ≡ wireFault s n
+unfolding wireFault
+wire-is s fl n q b h e = let t : leb s 2 ≡ true = le-leb s 2 (omega arith) in rw (t, e)
 
-  pub wire-is : (fl : ℕ) → fl ≡ styleOf s → (b : Bool) → fl ≤ 2 → (eqb (length zs % 2) 0 && leb 1 (length zs / 2)) ≡ b → cond b 0 8 ≡ givenFault (givenWire s w zs)
-  wire-is fl r b h q = sym (ap (λ (x : Bool). cond x 0 8) q) ∙ sym (ap (λ (x : Bool). cond x (cond (eqb (length zs % 2) 0 && leb 1 (length zs / 2)) 0 8) 7) (le-leb (styleOf s) 2 (omega arith))) ∙ wire-fault
+pub wire-fault : (s : EndStyle) (w : ℤ) (zs : List ℤ) → wireFault (styleOf s) (length zs) ≡ givenFault (givenWire s w zs)
+unfolding wireFault givenFault givenWire broken goodFlags allows flagsFor enoughGiven layout keepsGiven enough groups goodItem goodList meets ruleOf
+wire-fault s w zs = one (leb (styleOf s) 2) (eqb (length zs % 2) 0 && leb 1 (length zs / 2))
+  where
+    one : (a b : Bool) → cond a (cond b 0 8) 7 ≡ numberOr0 (cond a (cond (b && true) none (some 8)) (some 7))
+    one true true = refl
+    one true false = refl
+    one false b = refl
 
 -- ---- TEXT
 

@@ -16,11 +16,12 @@ use Rattle.cgx_spec.specs.Fields.{Field, real, positive, string, ones, ruleOf}
 use Rattle.cgx_spec.specs.Kinds.{flagsFor, allows, goodFlags, angle, magnif, array, onlyIf, count, long as long-field, point as point-field, layout}
 use Rattle.cgx_spec.specs.Records.{rule, broken}
 use Rattle.cgx_bodies.specs.Bodies.{numberOr0}
+use Rattle.cgx_fields.specs.Zeros.{noZero}
 use Rattle.cgx_kinds.specs.declared.Point.{Point}
 use Rattle.cgx_writing.specs.declared.Grid.{Grid}
-use Rattle.cgx_writing.specs.Given.{Item, eight, words, long, point, ifSet, enough, groups, goodItem, goodList, meets, keeping, pairwise, enoughGiven, keepsGiven, noZero, givenSref}
+use Rattle.cgx_writing.specs.Given.{Item, eight, words, long, point, ifSet, enough, groups, goodItem, goodList, meets, keeping, pairwise, enoughGiven, keepsGiven, givenSref}
 use Rattle.cgx_plans.specs.Plans.{textFault, givenFault}
-use Rattle.cgx_plans.specs.Srefs.{scaleGood, gridGood}
+use Rattle.cgx_plans.specs.Srefs.{scaleGood, gridGood, srefFault}
 
 -- ---- rule 10
 
@@ -83,23 +84,25 @@ module _ (at : Point) (turn scale : List ℕ) (g : Grid) (t : List ℕ) where
   by-flags true true false false = textual (noZero t)
   by-flags true false false false = textual (noZero t)
 
-  module _ (fl : ℕ) where
-    sref-fault : cond (leb fl 15) (cond (scaleGood (magnif fl) scale) (cond (gridGood (array fl) g) (textFault t) 10) 10) 7 ≡ givenFault (givenSref fl at turn scale g t)
-    unfolding givenFault givenSref goodFlags allows flagsFor enoughGiven keepsGiven layout
-    sref-fault = sym (by-flags (leb fl 15) (angle fl) (magnif fl) (array fl))
+  pub sref-fault : (fl : ℕ) → srefFault fl scale g t ≡ givenFault (givenSref fl at turn scale g t)
+  unfolding srefFault givenFault givenSref goodFlags allows flagsFor enoughGiven keepsGiven layout
+  sref-fault fl = sym (by-flags (leb fl 15) (angle fl) (magnif fl) (array fl))
 
-    pub sref-flags : 15 < fl → 7 ≡ givenFault (givenSref fl at turn scale g t)
-    sref-flags h = sym (ap (λ (b : Bool). cond b (cond (scaleGood (magnif fl) scale) (cond (gridGood (array fl) g) (textFault t) 10) 10) 7) (lt-leb fl 15 h)) ∙ sref-fault
+-- ---- as the code finds them
 
-    module _ (h : fl ≤ 15) where
-      numbers-and-text : cond (scaleGood (magnif fl) scale) (cond (gridGood (array fl) g) (textFault t) 10) 10 ≡ givenFault (givenSref fl at turn scale g t)
-      numbers-and-text = sym (ap (λ (b : Bool). cond b (cond (scaleGood (magnif fl) scale) (cond (gridGood (array fl) g) (textFault t) 10) 10) 7) (le-leb fl 15 h)) ∙ sref-fault
+module _ (fl : ℕ) (scale : List ℕ) (g : Grid) (t : List ℕ) where
+  pub sref-flags : 15 < fl → 7 ≡ srefFault fl scale g t
+  unfolding srefFault
+  sref-flags h = simp (lt-leb fl 15 h)
 
-      pub sref-scale : scaleGood (magnif fl) scale ≡ false → 10 ≡ givenFault (givenSref fl at turn scale g t)
-      sref-scale s = sym (ap (λ (b : Bool). cond b (cond (gridGood (array fl) g) (textFault t) 10) 10) s) ∙ numbers-and-text
+  pub sref-scale : fl ≤ 15 → scaleGood (magnif fl) scale ≡ false → 10 ≡ srefFault fl scale g t
+  unfolding srefFault
+  sref-scale h s = simp (le-leb fl 15 h, s)
 
-      pub sref-grid : scaleGood (magnif fl) scale ≡ true → gridGood (array fl) g ≡ false → 10 ≡ givenFault (givenSref fl at turn scale g t)
-      sref-grid s r = sym (ap₂ (λ (b c : Bool). cond b (cond c (textFault t) 10) 10) s r) ∙ numbers-and-text
+  pub sref-grid : fl ≤ 15 → scaleGood (magnif fl) scale ≡ true → gridGood (array fl) g ≡ false → 10 ≡ srefFault fl scale g t
+  unfolding srefFault
+  sref-grid h s r = simp (le-leb fl 15 h, s, r)
 
-      pub sref-text : scaleGood (magnif fl) scale ≡ true → gridGood (array fl) g ≡ true → textFault t ≡ givenFault (givenSref fl at turn scale g t)
-      sref-text s r = sym (ap₂ (λ (b c : Bool). cond b (cond c (textFault t) 10) 10) s r) ∙ numbers-and-text
+  pub sref-text : fl ≤ 15 → scaleGood (magnif fl) scale ≡ true → gridGood (array fl) g ≡ true → textFault t ≡ srefFault fl scale g t
+  unfolding srefFault
+  sref-text h s r = simp (le-leb fl 15 h, s, r)

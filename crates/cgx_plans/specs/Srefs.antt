@@ -2,19 +2,21 @@
 use mathlib.Core.Bool.{Bool, true, _&&_, cond}
 use mathlib.Core.List.{List}
 use Prim.Native.Nat.{ℕ}
+use lib.Dec.{leb}
 use lib.IntN.{pos}
 use lib.Signed.{leZ}
 use Rattle.cgx_spec.specs.Reals.{positiveReal}
-use Rattle.cgx_kinds.specs.declared.Point.{Point}
+use Rattle.cgx_spec.specs.Kinds.{magnif, array}
 use Rattle.cgx_writing.specs.declared.Grid.{Grid}
-
--- For every point and every angle, which it does not look at.
-abbrev pub Turned : (Point → List ℕ → Type 0) → Type 0
-Turned P = (at : Point) (turn : List ℕ) → P at turn
+use Rattle.cgx_plans.specs.Plans.{textFault}
 
 -- Rule 10, where the field's flag is set.
 abbrev pub scaleGood : Bool → List ℕ → Bool
-scaleGood stands scale = cond stands (positiveReal scale) true
+scaleGood set scale = cond set (positiveReal scale) true
 
 abbrev pub gridGood : Bool → Grid → Bool
-gridGood stands grid = cond stands (leZ (pos 1) (grid .cols) && leZ (pos 1) (grid .rows)) true
+gridGood set grid = cond set (leZ (pos 1) (grid .cols) && leZ (pos 1) (grid .rows)) true
+
+-- The first of the rules 7 to 12 that is broken, or 0.
+unfoldable pub srefFault : ℕ → List ℕ → Grid → List ℕ → ℕ
+srefFault fl scale grid name = cond (leb fl 15) (cond (scaleGood (magnif fl) scale) (cond (gridGood (array fl) grid) (textFault name) 10) 10) 7

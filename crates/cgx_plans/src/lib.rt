@@ -1,206 +1,204 @@
-// Plans: the checks of a call, in their order. Each answers the number of the refusal, or 0.
+// Plans: the checks of a call in their order, and what it answers. A plan looks at no byte of the buffer and stores none.
 ghost use mathlib.Core.Path.{_≡_};
 ghost use mathlib.Core.Bool.{_&&_, cond};
 ghost use mathlib.Core.Option.{none, some};
-ghost use Prim.Native.Nat.{_%_, _≤_};
+ghost use Prim.Native.Nat.{_+_, _*_, _/_, _%_, _≤_, _<_};
 ghost use lib.Dec.{eqb};
 ghost use lib.ListN.{length};
 ghost use lib.Signed.{leZ};
 ghost use Rattle.cgx_spec.specs.Reals.{positiveReal};
 ghost use Rattle.cgx_spec.specs.Dates.{calendar};
 ghost use Rattle.cgx_spec.specs.Fields.{inOrder, closed};
-ghost use Rattle.cgx_writing.specs.Given.{dateBytes, meets, givenLibrary, givenStruct, givenCprpty, givenProperty, givenLayer, givenBox, givenPoly, givenWire, givenText, givenSref, givenEndlib};
-ghost use Rattle.cgx_plans.specs.Plans.{Each, EachLayer, checked, textFault, givenFault, planned};
-ghost use Rattle.cgx_plans.specs.Srefs.{Turned, scaleGood, gridGood};
+ghost use Rattle.cgx_writing.specs.Given.{dateBytes, styleOf, meets, givenLibrary, givenStruct, givenCprpty, givenProperty, givenLayer, givenBox, givenPoly, givenWire, givenText, givenSref, givenEndlib};
+ghost use Rattle.cgx_writing.specs.Writing.{offsetOf, named, planned};
+ghost use Rattle.cgx_plans.specs.Plans.{textFault, wireFault, givenFault, checked, movedBy, concluded};
+ghost use Rattle.cgx_plans.specs.Srefs.{scaleGood, gridGood, srefFault};
+use cgx_cursor::Cursor;
+use cgx_cursor::allows;
+use cgx_cursor::is_forged;
+use cgx_cursor::next_state;
 use cgx_fields::date_good;
 use cgx_fields::no_zero;
 use cgx_kinds::Boxes;
-use cgx_kinds::Cprpty;
+use cgx_kinds::DataType;
 use cgx_kinds::Date;
 use cgx_kinds::Endlib;
 use cgx_kinds::Layer;
-use cgx_kinds::Library;
+use cgx_kinds::LayerNo;
+use cgx_kinds::Point;
 use cgx_kinds::Poly;
-use cgx_kinds::Property;
 use cgx_kinds::Sref;
-use cgx_kinds::Struct;
-use cgx_kinds::Text;
 use cgx_kinds::Wire;
-use cgx_numbers::LONG_SIZE;
 use cgx_numbers::WordBytes;
-use cgx_places::is_forged;
 use cgx_reals::positive_bytes;
-use cgx_records::may_stand;
 use cgx_spec::Kind;
-use cgx_spec::Place;
+use cgx_writing::Answer;
 use cgx_writing::EndStyle;
 use cgx_writing::Grid;
+use cgx_writing::Writer;
+use cgx_writing::box_size;
 use cgx_writing::date_bytes;
+use cgx_writing::library_size;
+use cgx_writing::named_size;
+use cgx_writing::poly_size;
+use cgx_writing::property_size;
 use cgx_writing::sref_size;
+use cgx_writing::struct_size;
+use cgx_writing::text_size;
+use cgx_writing::wire_size;
 
-// LIBRARY, STRUCT, CPRPTY and PROPERTY end in a text: their smallest size has the empty one, and each whole pair of bytes adds two.
+// A plan takes what its call is given, also what it does not look at.
 pub fn plan_library(
     room: usize,
-    p: Place,
+    w: Writer,
     version: u8,
     munit: WordBytes,
     uunit: WordBytes,
     created: Date,
     modified: Date,
     name: &[u8],
-) -> u8
-    ensures { λ r. ⌜ r ≡ planned room p (givenLibrary version munit uunit created modified (now (name .entry))) ⌝ }
+) -> Answer
+    ensures { λ r. ⌜ r ≡ planned room w (givenLibrary version munit uunit created modified (now (name .entry))) ⌝ }
 {
     let dates = dates_fault(created, modified);
     let scales = scales_fault(munit, uunit);
     let text = text_fault(name);
     let fault = first_fault(dates, first_fault(scales, text));
-    checks(
-        room,
-        p,
-        Kind::Library,
-        fault,
-        Library::MIN_SIZE + name.len() / 2 * 2,
-    )
+    conclude(room, w, Kind::Library, fault, library_size(name))
 }
 
-pub fn plan_struct(room: usize, p: Place, created: Date, modified: Date, name: &[u8]) -> u8
-    ensures { λ r. ⌜ r ≡ planned room p (givenStruct created modified (now (name .entry))) ⌝ }
+pub fn plan_struct(room: usize, w: Writer, created: Date, modified: Date, name: &[u8]) -> Answer
+    ensures { λ r. ⌜ r ≡ planned room w (givenStruct created modified (now (name .entry))) ⌝ }
 {
     let dates = dates_fault(created, modified);
     let text = text_fault(name);
     let fault = first_fault(dates, text);
-    checks(
-        room,
-        p,
-        Kind::Struct,
-        fault,
-        Struct::MIN_SIZE + name.len() / 2 * 2,
-    )
+    conclude(room, w, Kind::Struct, fault, struct_size(name))
 }
 
-pub fn plan_cprpty(room: usize, p: Place, value: &[u8]) -> u8
-    ensures { λ r. ⌜ Each (λ n. r ≡ planned room p (givenCprpty n (now (value .entry)))) ⌝ }
+pub fn plan_cprpty(room: usize, w: Writer, number: i32, value: &[u8]) -> Answer
+    ensures { λ r. ⌜ r ≡ planned room w (givenCprpty number (now (value .entry))) ⌝ }
 {
-    checks(
-        room,
-        p,
-        Kind::Cprpty,
-        text_fault(value),
-        Cprpty::MIN_SIZE + value.len() / 2 * 2,
-    )
+    plan_value(room, w, Kind::Cprpty, value)
 }
 
-pub fn plan_property(room: usize, p: Place, value: &[u8]) -> u8
-    ensures { λ r. ⌜ Each (λ n. r ≡ planned room p (givenProperty n (now (value .entry)))) ⌝ }
+pub fn plan_property(room: usize, w: Writer, number: i32, value: &[u8]) -> Answer
+    ensures { λ r. ⌜ r ≡ planned room w (givenProperty number (now (value .entry))) ⌝ }
 {
-    checks(
-        room,
-        p,
-        Kind::Property,
-        text_fault(value),
-        Property::MIN_SIZE + value.len() / 2 * 2,
-    )
+    plan_value(room, w, Kind::Property, value)
 }
 
-pub fn plan_layer(room: usize, p: Place) -> u8
-    ensures { λ r. ⌜ EachLayer (λ n d. r ≡ planned room p (givenLayer n d none)) ⌝ }
+// The value of a CPRPTY or of a PROPERTY.
+fn plan_value(room: usize, w: Writer, k: Kind, value: &[u8]) -> Answer
+    ensures { λ r. ⌜ r ≡ concluded room w k (textFault (now (value .entry))) (10 + length (now (value .entry)) / 2 * 2) ⌝ }
 {
-    checks(room, p, Kind::Layer, 0, Layer::MIN_SIZE)
+    conclude(room, w, k, text_fault(value), property_size(value))
 }
 
-pub fn plan_named(room: usize, p: Place, name: &[u8]) -> u8
-    ensures { λ r. ⌜ EachLayer (λ n d. r ≡ planned room p (givenLayer n d (some (now (name .entry))))) ⌝ }
+pub fn plan_layer(room: usize, w: Writer, number: LayerNo, datatype: DataType) -> Answer
+    ensures { λ r. ⌜ r ≡ planned room w (givenLayer number datatype none) ⌝ }
 {
-    checks(
-        room,
-        p,
-        Kind::Layer,
-        text_fault(name),
-        Layer::MIN_NAMED_SIZE + name.len() / 2 * 2,
-    )
+    conclude(room, w, Kind::Layer, 0, Layer::MIN_SIZE)
 }
 
-pub fn plan_box(room: usize, p: Place, sides: &[i32]) -> u8
-    ensures { λ r. ⌜ r ≡ planned room p (givenBox (now (sides .entry))) ⌝ }
+pub fn plan_named(
+    room: usize,
+    w: Writer,
+    number: LayerNo,
+    datatype: DataType,
+    name: &[u8],
+) -> Answer
+    ensures { λ r. ⌜ r ≡ planned room w (givenLayer number datatype (some (now (name .entry)))) ⌝ }
 {
-    checks(
-        room,
-        p,
-        Kind::Box,
-        box_fault(sides),
-        Boxes::BASE_SIZE + LONG_SIZE * sides.len(),
-    )
+    conclude(room, w, Kind::Layer, text_fault(name), named_size(name))
 }
 
-pub fn plan_poly(room: usize, p: Place, points: &[i32]) -> u8
-    ensures { λ r. ⌜ r ≡ planned room p (givenPoly (now (points .entry))) ⌝ }
+pub fn plan_box(room: usize, w: Writer, sides: &[i32]) -> Answer
+    ensures { λ r. ⌜ r ≡ planned room w (givenBox (now (sides .entry))) ⌝ }
 {
-    checks(
-        room,
-        p,
-        Kind::Poly,
-        poly_fault(points),
-        Poly::BASE_SIZE + LONG_SIZE * points.len(),
-    )
+    conclude(room, w, Kind::Box, box_fault(sides), box_size(sides))
 }
 
-pub fn plan_wire(room: usize, p: Place, style: EndStyle, points: &[i32]) -> u8
-    ensures { λ r. ⌜ Each (λ w. r ≡ planned room p (givenWire style w (now (points .entry)))) ⌝ }
+pub fn plan_poly(room: usize, w: Writer, points: &[i32]) -> Answer
+    ensures { λ r. ⌜ r ≡ planned room w (givenPoly (now (points .entry))) ⌝ }
 {
-    checks(
+    conclude(room, w, Kind::Poly, poly_fault(points), poly_size(points))
+}
+
+pub fn plan_wire(room: usize, w: Writer, style: EndStyle, width: i32, points: &[i32]) -> Answer
+    ensures { λ r. ⌜ r ≡ planned room w (givenWire style width (now (points .entry))) ⌝ }
+{
+    conclude(
         room,
-        p,
+        w,
         Kind::Wire,
         wire_fault(style, points),
-        Wire::BASE_SIZE + LONG_SIZE * points.len(),
+        wire_size(points),
     )
 }
 
-pub fn plan_text(room: usize, p: Place, flags: u8, label: &[u8]) -> u8
-    ensures { λ r. ⌜ Each (λ x. Each (λ y. Each (λ w. r ≡ planned room p (givenText flags (record { x = x; y = y }) w (now (label .entry)))))) ⌝ }
+pub fn plan_text(room: usize, w: Writer, flags: u8, at: Point, width: i32, label: &[u8]) -> Answer
+    ensures { λ r. ⌜ r ≡ planned room w (givenText flags at width (now (label .entry))) ⌝ }
 {
-    checks(
-        room,
-        p,
-        Kind::Text,
-        text_fault(label),
-        Text::MIN_SIZE + label.len() / 2 * 2,
-    )
+    conclude(room, w, Kind::Text, text_fault(label), text_size(label))
 }
 
-pub fn plan_sref(room: usize, p: Place, flags: u8, magnif: &[u8; 8], grid: Grid, name: &[u8]) -> u8
-    ensures { λ r. ⌜ Turned (λ at turn. r ≡ planned room p (givenSref flags at turn (now (magnif .entry)) grid (now (name .entry)))) ⌝ }
+pub fn plan_sref(
+    room: usize,
+    w: Writer,
+    flags: u8,
+    at: Point,
+    angle: &[u8; 8],
+    magnif: &[u8; 8],
+    grid: Grid,
+    name: &[u8],
+) -> Answer
+    ensures { λ r. ⌜ r ≡ planned room w (givenSref flags at (now (angle .entry)) (now (magnif .entry)) grid (now (name .entry))) ⌝ }
 {
-    checks(
+    conclude(
         room,
-        p,
+        w,
         Kind::Sref,
         sref_fault(flags, magnif, grid, name),
         sref_size(flags, name),
     )
 }
 
-pub fn plan_endlib(room: usize, p: Place) -> u8
-    ensures { λ r. ⌜ r ≡ planned room p givenEndlib ⌝ }
+pub fn plan_endlib(room: usize, w: Writer) -> Answer
+    ensures { λ r. ⌜ r ≡ planned room w givenEndlib ⌝ }
 {
-    checks(room, p, Kind::Endlib, 0, Endlib::SIZE)
+    conclude(room, w, Kind::Endlib, 0, Endlib::SIZE)
 }
 
-// ---- the order of the checks
+// ---- the answer to a record of a kind and a size: `fault` is the first of the rules 7 to 12 that it breaks, or 0
 
-// The checks of a call in their order; `fault` is the first of the rules 7 to 12 that it breaks, or 0.
-fn checks(room: usize, p: Place, k: Kind, fault: u8, size: usize) -> u8
-    ensures { λ r. ⌜ r ≡ checked room p k fault size ⌝ }
+fn conclude(room: usize, w: Writer, k: Kind, fault: u8, size: usize) -> Answer
+    ensures { λ r. ⌜ r ≡ concluded room w k fault size ⌝ }
 {
-    if is_forged(room, p) {
+    let number = first_check(room, w, k, fault, size);
+    if number != 0 {
+        return refused(number, w);
+    }
+    Answer {
+        number: 0,
+        at: 0,
+        writer: moved(w, k, size),
+    }
+}
+
+// The number of the first check that fails, or 0: the place, then what is given, then the room.
+fn first_check(room: usize, w: Writer, k: Kind, fault: u8, size: usize) -> u8
+    ensures { λ r. ⌜ r ≡ checked room w k fault size ⌝ }
+{
+    let cursor = w.cursor;
+    if is_forged(room, cursor) {
         return 16;
     }
-    let c = p.context;
-    if c.ended {
+    let state = cursor.state;
+    if state.ended {
         return 6;
     }
-    if !may_stand(c, k) {
+    if !allows(state, k) {
         return 6;
     }
     if fault != 0 {
@@ -209,11 +207,41 @@ fn checks(room: usize, p: Place, k: Kind, fault: u8, size: usize) -> u8
     if Kind::MAX_SIZE < size {
         return 15;
     }
-    let at = p.at;
+    let at = cursor.at;
     if room - at < size {
         return 14;
     }
     0
+}
+
+// A refusal hands the writer back. 6 to 12 name the place where the record would begin.
+fn refused(number: u8, w: Writer) -> Answer
+    ensures { λ r. ⌜ r ≡ record { number = number; at = named number (offsetOf w); writer = w } ⌝ }
+{
+    let cursor = w.cursor;
+    let names = (6 <= number) & (number <= 12);
+    let at = if names { cursor.at } else { 0 };
+    Answer {
+        number,
+        at,
+        writer: w,
+    }
+}
+
+// The writer after a record.
+fn moved(w: Writer, k: Kind, size: usize) -> Writer
+    requires { ⌜ (0 < offsetOf w) × (offsetOf w + size < 18446744073709551616) × (w .cursor .state .count < 18446744073709551615) ⌝ }
+    ensures { λ r. ⌜ r ≡ movedBy w k size ⌝ }
+{
+    let cursor = w.cursor;
+    let at = cursor.at;
+    let state = next_state(cursor.state, at, k);
+    Writer {
+        cursor: Cursor {
+            at: at + size,
+            state,
+        },
+    }
 }
 
 // ---- the rules 7 to 12
@@ -262,7 +290,7 @@ fn box_fault(sides: &[i32]) -> u8
     if boxes_good(sides) { 0 } else { 10 }
 }
 
-// No branch stands in the loop, so that several boxes can be taken at a time.
+// There is no branch in the loop, so that several boxes can be taken at a time.
 fn boxes_good(sides: &[i32]) -> bool
     requires { ⌜ length (now sides) % 4 ≡ 0 ⌝ }
     ensures { λ r. ⌜ r ≡ inOrder (now (sides .entry)) ⌝ }
@@ -315,7 +343,7 @@ fn same_long(a: i32, b: i32) -> bool
 
 // The rules 7 to 12 of a WIRE.
 fn wire_fault(style: EndStyle, points: &[i32]) -> u8
-    ensures { λ r. ⌜ Each (λ w. r ≡ givenFault (givenWire style w (now (points .entry)))) ⌝ }
+    ensures { λ r. ⌜ r ≡ wireFault (styleOf style) (length (now (points .entry))) ⌝ }
 {
     let flags = style.flags();
     if Wire::MAX_FLAGS < flags {
@@ -332,7 +360,7 @@ fn wire_fault(style: EndStyle, points: &[i32]) -> u8
 
 // The rules 7 to 12 of an SREF.
 fn sref_fault(flags: u8, magnif: &[u8; 8], grid: Grid, name: &[u8]) -> u8
-    ensures { λ r. ⌜ Turned (λ at turn. r ≡ givenFault (givenSref flags at turn (now (magnif .entry)) grid (now (name .entry)))) ⌝ }
+    ensures { λ r. ⌜ r ≡ srefFault flags (now (magnif .entry)) grid (now (name .entry)) ⌝ }
 {
     if Sref::MAX_FLAGS < flags {
         return 7;
@@ -346,22 +374,18 @@ fn sref_fault(flags: u8, magnif: &[u8; 8], grid: Grid, name: &[u8]) -> u8
     text_fault(name)
 }
 
-fn magnif_good(stands: bool, magnif: &[u8; 8]) -> bool
-    ensures { λ r. ⌜ r ≡ scaleGood stands (now (magnif .entry)) ⌝ }
+fn magnif_good(set: bool, magnif: &[u8; 8]) -> bool
+    ensures { λ r. ⌜ r ≡ scaleGood set (now (magnif .entry)) ⌝ }
 {
-    if stands { positive_bytes(magnif) } else { true }
+    if set { positive_bytes(magnif) } else { true }
 }
 
-fn grid_good(stands: bool, grid: Grid) -> bool
-    ensures { λ r. ⌜ r ≡ gridGood stands grid ⌝ }
+fn grid_good(set: bool, grid: Grid) -> bool
+    ensures { λ r. ⌜ r ≡ gridGood set grid ⌝ }
 {
     let cols = grid.cols;
     let rows = grid.rows;
-    if stands {
-        (1 <= cols) & (1 <= rows)
-    } else {
-        true
-    }
+    if set { (1 <= cols) & (1 <= rows) } else { true }
 }
 
 // Rule 11 of a text, the only one of 7 to 12 that a record with a text and no more can break.

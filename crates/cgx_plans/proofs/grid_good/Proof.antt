@@ -7,7 +7,7 @@ use Rattle.cgx_plans.proofs.grid_good.Tie as tie
 returns : tie.Need-returns
 returns c =
     let a = c .before .before .before .args in
-    grid-on (a .stands) (a .grid) (c .if1 .taken) (c .before .before .struct-told .given .0 .1) (c .before .struct-told2 .given .1 .0 .1)
+    grid-on (a .set) (a .grid) (c .if1 .taken) (c .before .before .struct-told .given .0 .1) (c .before .struct-told2 .given .1 .0 .1)
 
 returns-2 : tie.Need-returns-2
 returns-2 c = search needs

@@ -11,7 +11,7 @@ returns : tie.Need-returns
 returns c =
     let i = c .before .before in
     let a = i .before .args in
-    scale-on (a .stands) (a .magnif .now) (c .positive-bytes .result) (i .if1 .taken) (c .positive-bytes .ensures)
+    scale-on (a .set) (a .magnif .now) (c .positive-bytes .result) (i .if1 .taken) (c .positive-bytes .ensures)
 
 returns-2 : tie.Need-returns-2
 returns-2 c = search needs

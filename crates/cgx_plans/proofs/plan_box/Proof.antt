@@ -1,9 +1,8 @@
--- The checks with the rules of a BOX and its size.
-use Prim.Native.Nat.{_+_, _*_}
-use lib.ListN.{length}
+-- The rules of a BOX and its size.
+use mathlib.Core.Path.{_∙_}
 use Rattle.cgx_writing.specs.Given.{givenBox}
-use Rattle.cgx_plans.proofs.Order.{plan-is}
 use Rattle.cgx_writing.proofs.Sizes.{box-size}
+use Rattle.cgx_plans.proofs.Order.{plan-is}
 use borrow.Author.Needs.{needs}
 use Rattle.cgx_plans.proofs.plan_box.Statement.{statement}
 use Rattle.cgx_plans.proofs.plan_box.Tie as tie
@@ -11,21 +10,17 @@ use Rattle.cgx_plans.proofs.plan_box.Tie as tie
 box-fault-requires : tie.Need-box-fault-requires
 box-fault-requires c κs = search needs
 
-mul-checks : tie.Need-mul-checks
-mul-checks c = search needs
+box-size-requires : tie.Need-box-size-requires
+box-size-requires c κs = search needs
 
-add-checks : tie.Need-add-checks
-add-checks c = search needs
-
-checks-requires : tie.Need-checks-requires
-checks-requires c κs = search needs
+conclude-requires : tie.Need-conclude-requires
+conclude-requires c κs = search needs
 
 returns : tie.Need-returns
 unfolding givenBox
 returns c =
-    let a = c .before .before .args in
-    plan-is (a .room) (a .p) (givenBox (a .sides .now)) (c .checks .result) (c .before .box-fault .result) (4 + 4 * length (a .sides .now)) (c .checks .ensures) (c .before .box-fault .ensures) (box-size (a .sides .now))
+    let a = c .before .before .before .args in
+    plan-is (a .room) (a .w) (givenBox (a .sides .now)) (c .conclude .result) (c .before .before .box-fault .result) (c .before .box-size .result) (c .conclude .ensures) (c .before .before .box-fault .ensures) (c .before .box-size .ensures ∙ box-size (a .sides .now))
 
 pub plan-box-spec : {M : Type 1} → statement M
-plan-box-spec =
-    tie.close (tie.spec box-fault-requires mul-checks add-checks checks-requires returns)
+plan-box-spec = tie.close (tie.spec box-fault-requires box-size-requires conclude-requires returns)

@@ -1,9 +1,8 @@
--- The checks with the rules of a POLY and its size.
-use Prim.Native.Nat.{_+_, _*_}
-use lib.ListN.{length}
+-- The rules of a POLY and its size.
+use mathlib.Core.Path.{_∙_}
 use Rattle.cgx_writing.specs.Given.{givenPoly}
-use Rattle.cgx_plans.proofs.Order.{plan-is}
 use Rattle.cgx_writing.proofs.Polys.{poly-size}
+use Rattle.cgx_plans.proofs.Order.{plan-is}
 use borrow.Author.Needs.{needs}
 use Rattle.cgx_plans.proofs.plan_poly.Statement.{statement}
 use Rattle.cgx_plans.proofs.plan_poly.Tie as tie
@@ -11,21 +10,17 @@ use Rattle.cgx_plans.proofs.plan_poly.Tie as tie
 poly-fault-requires : tie.Need-poly-fault-requires
 poly-fault-requires c κs = search needs
 
-mul-checks : tie.Need-mul-checks
-mul-checks c = search needs
+poly-size-requires : tie.Need-poly-size-requires
+poly-size-requires c κs = search needs
 
-add-checks : tie.Need-add-checks
-add-checks c = search needs
-
-checks-requires : tie.Need-checks-requires
-checks-requires c κs = search needs
+conclude-requires : tie.Need-conclude-requires
+conclude-requires c κs = search needs
 
 returns : tie.Need-returns
 unfolding givenPoly
 returns c =
-    let a = c .before .before .args in
-    plan-is (a .room) (a .p) (givenPoly (a .points .now)) (c .checks .result) (c .before .poly-fault .result) (4 + 4 * length (a .points .now)) (c .checks .ensures) (c .before .poly-fault .ensures) (poly-size (a .points .now))
+    let a = c .before .before .before .args in
+    plan-is (a .room) (a .w) (givenPoly (a .points .now)) (c .conclude .result) (c .before .before .poly-fault .result) (c .before .poly-size .result) (c .conclude .ensures) (c .before .before .poly-fault .ensures) (c .before .poly-size .ensures ∙ poly-size (a .points .now))
 
 pub plan-poly-spec : {M : Type 1} → statement M
-plan-poly-spec =
-    tie.close (tie.spec poly-fault-requires mul-checks add-checks checks-requires returns)
+plan-poly-spec = tie.close (tie.spec poly-fault-requires poly-size-requires conclude-requires returns)

@@ -8,51 +8,32 @@ use Rattle.cgx_plans.proofs.sref_fault.Tie as tie
 
 returns : tie.Need-returns
 returns c =
-    λ at turn.
     let a = c .before .before .args in
-    sref-flags at turn (a .magnif .now) (a .grid) (a .name .now) (a .flags) (c .if1 .taken)
+    sref-flags (a .flags) (a .magnif .now) (a .grid) (a .name .now) (c .if1 .taken)
 
 magnif-good-requires : tie.Need-magnif-good-requires
 magnif-good-requires c κs = search needs
 
 returns-2 : tie.Need-returns-2
 returns-2 c =
-    λ at turn.
-    let m = c .before in
-    let a = m .before .before .before .args in
-    sref-scale at turn (a .magnif .now) (a .grid) (a .name .now) (a .flags) (m .before .if1 .left) (sym (m .magnif-good .ensures) ∙ not-true _ (c .if2 .taken))
+    let a = c .before .before .before .before .args in
+    sref-scale (a .flags) (a .magnif .now) (a .grid) (a .name .now) (c .before .before .if1 .left) (sym (c .before .magnif-good .ensures) ∙ not-true _ (c .if2 .taken))
 
 grid-good-requires : tie.Need-grid-good-requires
 grid-good-requires c κs = search needs
 
 returns-3 : tie.Need-returns-3
 returns-3 c =
-    λ at turn.
-    let g = c .before in
-    let m = g .before .before in
-    let a = m .before .before .before .args in
-    sref-grid at turn (a .magnif .now) (a .grid) (a .name .now) (a .flags) (m .before .if1 .left) (sym (m .magnif-good .ensures) ∙ not-false _ (g .before .if2 .left)) (sym (g .grid-good .ensures) ∙ not-true _ (c .if3 .taken))
+    let a = c .before .before .before .before .before .before .args in
+    sref-grid (a .flags) (a .magnif .now) (a .grid) (a .name .now) (c .before .before .before .before .if1 .left) (sym (c .before .before .before .magnif-good .ensures) ∙ not-false _ (c .before .before .if2 .left)) (sym (c .before .grid-good .ensures) ∙ not-true _ (c .if3 .taken))
 
 text-fault-requires : tie.Need-text-fault-requires
 text-fault-requires c κs = search needs
 
 returns-4 : tie.Need-returns-4
 returns-4 c =
-    λ at turn.
-    let g = c .before .before in
-    let m = g .before .before in
-    let a = m .before .before .before .args in
-    c .text-fault .ensures
-    ∙ sref-text at turn (a .magnif .now) (a .grid) (a .name .now) (a .flags) (m .before .if1 .left) (sym (m .magnif-good .ensures) ∙ not-false _ (g .before .if2 .left)) (sym (g .grid-good .ensures) ∙ not-false _ (c .before .if3 .left))
+    let a = c .before .before .before .before .before .before .before .args in
+    c .text-fault .ensures ∙ sref-text (a .flags) (a .magnif .now) (a .grid) (a .name .now) (c .before .before .before .before .before .if1 .left) (sym (c .before .before .before .before .magnif-good .ensures) ∙ not-false _ (c .before .before .before .if2 .left)) (sym (c .before .before .grid-good .ensures) ∙ not-false _ (c .before .if3 .left))
 
 pub sref-fault-spec : {M : Type 1} → statement M
-sref-fault-spec =
-    tie.close
-    (tie.spec
-    returns
-    magnif-good-requires
-    returns-2
-    grid-good-requires
-    returns-3
-    text-fault-requires
-    returns-4)
+sref-fault-spec = tie.close (tie.spec returns magnif-good-requires returns-2 grid-good-requires returns-3 text-fault-requires returns-4)
