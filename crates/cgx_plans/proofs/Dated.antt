@@ -17,7 +17,9 @@ use Rattle.cgx_spec.proofs.Lists.{and-true}
 use Rattle.cgx_bodies.specs.Bodies.{numberOr0}
 use Rattle.cgx_fields.specs.Zeros.{noZero}
 use Rattle.cgx_kinds.specs.declared.Date.{Date}
-use Rattle.cgx_writing.specs.Given.{dateBytes, enough, groups, meets, goodItem, goodList, enoughGiven, keepsGiven, givenLibrary, givenStruct, givenCprpty, givenProperty}
+use Rattle.cgx_writing.specs.declared.Owner.{Owner}
+use Rattle.cgx_writing.specs.declared.Owner.the-variants.{Cell, Object}
+use Rattle.cgx_writing.specs.Given.{dateBytes, enough, groups, meets, goodItem, goodList, enoughGiven, keepsGiven, givenLibrary, givenStruct, givenOwned}
 use Rattle.cgx_plans.specs.Plans.{textFault, givenFault}
 
 -- ---- one rule
@@ -75,10 +77,7 @@ module _ (created modified : Date) (name : List ℕ) where
   struct-fault dates text fault d t f = f ∙ ap₂ first d t ∙ ascending (calendar (dateBytes created)) (calendar (dateBytes modified)) true true (noZero name)
 
 module _ (number : ℤ) (value : List ℕ) where
-  pub cprpty-fault : textFault value ≡ givenFault (givenCprpty number value)
-  unfolding givenFault givenCprpty broken goodFlags allows flagsFor enoughGiven layout keepsGiven enough groups goodItem goodList meets ruleOf
-  cprpty-fault = ascending true true true true (noZero value)
-
-  pub property-fault : textFault value ≡ givenFault (givenProperty number value)
-  unfolding givenFault givenProperty broken goodFlags allows flagsFor enoughGiven layout keepsGiven enough groups goodItem goodList meets ruleOf
-  property-fault = ascending true true true true (noZero value)
+  pub owned-fault : (owner : Owner) → textFault value ≡ givenFault (givenOwned owner number value)
+  unfolding givenFault givenOwned broken goodFlags allows flagsFor enoughGiven layout keepsGiven enough groups goodItem goodList meets ruleOf
+  owned-fault Cell = ascending true true true true (noZero value)
+  owned-fault Object = ascending true true true true (noZero value)

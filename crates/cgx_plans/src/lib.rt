@@ -2,14 +2,14 @@
 ghost use mathlib.Core.Path.{_≡_};
 ghost use mathlib.Core.Bool.{_&&_, cond};
 ghost use mathlib.Core.Option.{none, some};
-ghost use Prim.Native.Nat.{_+_, _*_, _/_, _%_, _≤_, _<_};
+ghost use Prim.Native.Nat.{_+_, _%_, _≤_, _<_};
 ghost use lib.Dec.{eqb};
 ghost use lib.ListN.{length};
 ghost use lib.Signed.{leZ};
 ghost use Rattle.cgx_spec.specs.Reals.{positiveReal};
 ghost use Rattle.cgx_spec.specs.Dates.{calendar};
 ghost use Rattle.cgx_spec.specs.Fields.{inOrder, closed};
-ghost use Rattle.cgx_writing.specs.Given.{dateBytes, styleOf, meets, givenLibrary, givenStruct, givenCprpty, givenProperty, givenLayer, givenBox, givenPoly, givenWire, givenText, givenSref, givenEndlib};
+ghost use Rattle.cgx_writing.specs.Given.{dateBytes, styleOf, meets, givenLibrary, givenStruct, givenOwned, givenLayer, givenBox, givenPoly, givenWire, givenText, givenSref, givenEndlib};
 ghost use Rattle.cgx_writing.specs.Writing.{offsetOf, named, planned};
 ghost use Rattle.cgx_plans.specs.Plans.{textFault, wireFault, givenFault, checked, movedBy, concluded};
 ghost use Rattle.cgx_plans.specs.Srefs.{scaleGood, gridGood, srefFault};
@@ -35,6 +35,7 @@ use cgx_spec::Kind;
 use cgx_writing::Answer;
 use cgx_writing::EndStyle;
 use cgx_writing::Grid;
+use cgx_writing::Owner;
 use cgx_writing::Writer;
 use cgx_writing::box_size;
 use cgx_writing::date_bytes;
@@ -76,23 +77,17 @@ pub fn plan_struct(room: usize, w: Writer, created: Date, modified: Date, name: 
     conclude(room, w, Kind::Struct, fault, struct_size(name))
 }
 
-pub fn plan_cprpty(room: usize, w: Writer, number: i32, value: &[u8]) -> Answer
-    ensures { λ r. ⌜ r ≡ planned room w (givenCprpty number (now (value .entry))) ⌝ }
+// A CPRPTY or a PROPERTY.
+pub fn plan_property(room: usize, w: Writer, owner: Owner, number: i32, value: &[u8]) -> Answer
+    ensures { λ r. ⌜ r ≡ planned room w (givenOwned owner number (now (value .entry))) ⌝ }
 {
-    plan_value(room, w, Kind::Cprpty, value)
-}
-
-pub fn plan_property(room: usize, w: Writer, number: i32, value: &[u8]) -> Answer
-    ensures { λ r. ⌜ r ≡ planned room w (givenProperty number (now (value .entry))) ⌝ }
-{
-    plan_value(room, w, Kind::Property, value)
-}
-
-// The value of a CPRPTY or of a PROPERTY.
-fn plan_value(room: usize, w: Writer, k: Kind, value: &[u8]) -> Answer
-    ensures { λ r. ⌜ r ≡ concluded room w k (textFault (now (value .entry))) (10 + length (now (value .entry)) / 2 * 2) ⌝ }
-{
-    conclude(room, w, k, text_fault(value), property_size(value))
+    conclude(
+        room,
+        w,
+        owner.kind(),
+        text_fault(value),
+        property_size(value),
+    )
 }
 
 pub fn plan_layer(room: usize, w: Writer, number: LayerNo, datatype: DataType) -> Answer

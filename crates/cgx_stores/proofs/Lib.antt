@@ -1,6 +1,3 @@
--- `Behind`: a chain of stores. `Stored`: the stores of each kind are the bytes of its record.
-pub mod Behind
-pub mod Stored
--- `Polys`, `Srefs`: the stores of these two.
-pub mod Polys
+-- `Chain`: a chain of stores. `Srefs`: the stores of an SREF are the bytes of its record.
+pub mod Chain
 pub mod Srefs

@@ -1,8 +1,8 @@
--- The stores of an SREF, one behind the other, are the bytes of its record, whichever of its fields stand. Assumes nothing.
+-- The stores of an SREF, one after the other, are the bytes of its record, whichever of its fields are there. Assumes nothing.
 use mathlib.Core.Path.{_≡_, refl, sym, ap, _∙_}
 use mathlib.Core.Bool.{Bool, true, false}
 use mathlib.Core.List.{List, [], _∷_, _++_, append-assoc, append-nil}
-use Prim.Native.Nat.{ℕ, _+_, _<_}
+use Prim.Native.Nat.{ℕ, _+_, _/_, _%_, _<_}
 use native.Mathlib.Omega.{arith}
 use lib.IntN.{ℤ}
 use lib.Signed.{mag}
@@ -10,10 +10,11 @@ use lib.ListN.{length, length-append}
 use mir.Syntax.{w32}
 use mir.Val.{toZ, ofZ}
 use mir.ValLaws.{toZ-ofZ}
+use Rattle.cgx_spec.specs.declared.Kind.the-variants.{Sref}
 use Rattle.cgx_spec.specs.Numbers.{longBytes}
 use Rattle.cgx_spec.specs.Reals.{normalReal}
 use Rattle.cgx_spec.specs.Strings.{padded}
-use Rattle.cgx_spec.specs.Kinds.{angle, magnif, array, flagsFor, meant, flagsOf}
+use Rattle.cgx_spec.specs.Kinds.{angle, magnif, array, flagsOf}
 use Rattle.cgx_spec.specs.Records.{bytesOf}
 use Rattle.cgx_spec.specs.Restated.{typeByte}
 use Rattle.cgx_put.specs.Put.{put, longsBytes}
@@ -23,7 +24,6 @@ use Rattle.cgx_writing.specs.declared.Grid.{Grid}
 use Rattle.cgx_writing.specs.Given.{long, point, ifSet, stored, written, givenSref}
 use Rattle.cgx_writing.specs.Srefs.{realIf, gridIf, widthIf, srefSize}
 use Rattle.cgx_writing.proofs.Srefs.{real-width, grid-width, sref-size}
-use Rattle.cgx_stores.proofs.Stored.{heads}
 
 -- ---- a field by its flag
 
@@ -62,15 +62,19 @@ module _ (g : Grid) (c : mag (g .cols) < 2147483648) (r : mag (g .rows) < 214748
 
 -- ---- the record
 
+-- size, type and flags
+abbrev heads : ℕ → ℕ → List ℕ
+heads size fl = size / 256 ∷ size % 256 ∷ typeByte Sref ∷ flagsOf Sref fl ∷ []
+
 regroup : (h x y a m c r p q t : List ℕ) → (((((h ++ x) ++ y) ++ a) ++ m) ++ (c ++ (r ++ (p ++ q)))) ++ t ≡ h ++ (x ++ (y ++ (a ++ (m ++ (c ++ (r ++ (p ++ (q ++ (t ++ [])))))))))
 regroup h x y a m c r p q t = simp (append-assoc, append-nil)
 
 module _ (fl : ℕ) (p : Point) (turn scale : List ℕ) (g : Grid) (t : List ℕ) where
   pub sref-store : (l : List ℕ) (at second third last : ℕ) → second ≡ at + 12 + widthIf (angle fl) 8 → third ≡ second + widthIf (magnif fl) 8 → last ≡ third + widthIf (array fl) 24
-      → put (put (put (put (put (put (put l at (heads (srefSize fl (length t)) 9 fl)) (at + 4) (longBytes (p .x))) (at + 8) (longBytes (p .y))) (at + 12) (realIf (angle fl) turn)) second (realIf (magnif fl) scale)) third (gridIf (array fl) g)) last (padded t) ≡ put l at (bytesOf (written (givenSref fl p turn scale g t)))
-  unfolding bytesOf written givenSref typeByte flagsOf flagsFor meant stored longsBytes longBytes
+      → put (put (put (put (put (put (put l at (heads (srefSize fl (length t)) fl)) (at + 4) (longBytes (p .x))) (at + 8) (longBytes (p .y))) (at + 12) (realIf (angle fl) turn)) second (realIf (magnif fl) scale)) third (gridIf (array fl) g)) last (padded t) ≡ put l at (bytesOf (written (givenSref fl p turn scale g t)))
+  unfolding bytesOf written givenSref stored longsBytes longBytes
   sref-store l at second third last e2 e3 e4 =
-      let h = heads (srefSize fl (length t)) 9 fl in
+      let h = heads (srefSize fl (length t)) fl in
       let x = longBytes (p .x) in
       let y = longBytes (p .y) in
       let a = realIf (angle fl) turn in
@@ -89,4 +93,4 @@ module _ (fl : ℕ) (p : Point) (turn scale : List ℕ) (g : Grid) (t : List ℕ
       ∙ ap (λ (b : List ℕ). put b last (padded t)) (put-next l at (12 + widthIf (angle fl) 8 + widthIf (magnif fl) 8) third s3 c n3 (omega arith))
       ∙ put-next l at (12 + widthIf (angle fl) 8 + widthIf (magnif fl) 8 + widthIf (array fl) 24) last (s3 ++ c) (padded t) n4 (omega arith)
       ∙ ap (put l at) (regroup h x y a m (stored (ifSet (array fl) (long (g .cols)))) (stored (ifSet (array fl) (long (g .rows)))) (stored (ifSet (array fl) (point (g .across)))) (stored (ifSet (array fl) (point (g .up)))) (padded t))
-      ∙ ap (λ (k : ℕ). put l at (heads k 9 fl ++ written (givenSref fl p turn scale g t) .body)) (sref-size fl p turn scale g t)
+      ∙ ap (λ (k : ℕ). put l at (heads k fl ++ written (givenSref fl p turn scale g t) .body)) (sref-size fl p turn scale g t)

@@ -9,7 +9,7 @@ use Rattle.cgx_spec.specs.Fields.{any, ordered, closed, Test, Field, longs}
 use Rattle.cgx_spec.specs.Kinds.{angle, magnif, array, onlyIf, layout}
 use Rattle.cgx_kinds.specs.declared.Point.{Point}
 use Rattle.cgx_writing.specs.declared.Grid.{Grid}
-use Rattle.cgx_writing.specs.Given.{Item, eight, list, long, point, ifSet, givenLibrary, givenStruct, givenCprpty, givenProperty, givenLayer, givenBox, givenPoly, givenWire, givenText, givenSref, givenEndlib}
+use Rattle.cgx_writing.specs.Given.{Item, eight, list, long, point, ifSet, givenLibrary, givenStruct, givenOwned, givenLayer, givenBox, givenPoly, givenWire, givenText, givenSref, givenEndlib}
 use Rattle.cgx_writing.specs.Typed.{Long, Longs, IsPoint, Typed, a-real, a-scale, a-date, a-short, a-list, a-text, a-name, no-name, not-there}
 use Rattle.cgx_writing.specs.Demands.{CallsPromises}
 
@@ -33,7 +33,7 @@ ignored f true h = ap f (h refl)
 ignored f false h = refl
 
 pub calls-promises : CallsPromises
-unfolding layout givenLibrary givenStruct givenCprpty givenProperty givenLayer givenBox givenPoly givenWire givenText givenSref givenEndlib
+unfolding layout givenLibrary givenStruct givenOwned givenLayer givenBox givenPoly givenWire givenText givenSref givenEndlib
 calls-promises =
     record {
       library = λ v m u c d n hv hc hd hn. record { flags = hv; items = (a-scale, (a-scale, (a-date hc, (a-date hd, (a-text hn, tt))))) };

@@ -15,7 +15,8 @@ use Rattle.cgx_put.specs.Put.{put}
 use Rattle.cgx_put.proofs.Puts.{put-next, length-longs}
 use Rattle.cgx_put.proofs.Padding.{length-padded}
 use Rattle.cgx_kinds.specs.declared.Date.{Date}
-use Rattle.cgx_writing.specs.Given.{Item, eight, day, small, list, words, nothing, dateBytes, stored, Given, written, givenLibrary, givenStruct, givenCprpty, givenProperty}
+use Rattle.cgx_writing.specs.declared.Owner.{Owner}
+use Rattle.cgx_writing.specs.Given.{Item, eight, day, small, list, words, nothing, dateBytes, stored, Given, written, givenLibrary, givenStruct, givenOwned}
 
 abbrev pub width : Item → ℕ
 width (eight b) = 8
@@ -58,14 +59,10 @@ module _ (created modified : Date) (t : List ℕ) where
   unfolding givenStruct
   struct-size = size-is (givenStruct created modified t) (22 + length t / 2 * 2) (omega arith)
 
-module _ (number : ℤ) (t : List ℕ) where
-  pub cprpty-size : 10 + length t / 2 * 2 ≡ size (written (givenCprpty number t))
-  unfolding givenCprpty
-  cprpty-size = size-is (givenCprpty number t) (10 + length t / 2 * 2) (omega arith)
-
-  pub property-size : 10 + length t / 2 * 2 ≡ size (written (givenProperty number t))
-  unfolding givenProperty
-  property-size = size-is (givenProperty number t) (10 + length t / 2 * 2) (omega arith)
+module _ (owner : Owner) (number : ℤ) (t : List ℕ) where
+  pub owned-size : 10 + length t / 2 * 2 ≡ size (written (givenOwned owner number t))
+  unfolding givenOwned
+  owned-size = size-is (givenOwned owner number t) (10 + length t / 2 * 2) (omega arith)
 
 -- ---- the stores of a record
 

@@ -26,6 +26,8 @@ use Rattle.cgx_fields.specs.Zeros.{noZero}
 use Rattle.cgx_put.specs.Put.{longsBytes}
 use Rattle.cgx_writing.specs.declared.EndStyle.{EndStyle}
 use Rattle.cgx_writing.specs.declared.EndStyle.the-variants.{Unstated, Stated}
+use Rattle.cgx_writing.specs.declared.Owner.{Owner}
+use Rattle.cgx_writing.specs.declared.Owner.the-variants.{Cell, Object}
 use Rattle.cgx_writing.specs.declared.Grid.{Grid}
 
 -- ---- what is given for a field
@@ -182,11 +184,18 @@ givenLibrary version munit uunit created modified name =
 unfoldable pub givenStruct : Date → Date → List ℕ → Given
 givenStruct created modified name = record { kind = Struct; flags = 0; items = day created ∷ day modified ∷ words name ∷ [] }
 
-unfoldable pub givenCprpty : ℤ → List ℕ → Given
-givenCprpty number value = record { kind = Cprpty; flags = 0; items = long number ∷ words value ∷ [] }
+abbrev pub propertyKind : Owner → Kind
+propertyKind Cell = Cprpty
+propertyKind Object = Property
 
-unfoldable pub givenProperty : ℤ → List ℕ → Given
-givenProperty number value = record { kind = Property; flags = 0; items = long number ∷ words value ∷ [] }
+unfoldable pub givenOwned : Owner → ℤ → List ℕ → Given
+givenOwned owner number value = record { kind = propertyKind owner; flags = 0; items = long number ∷ words value ∷ [] }
+
+abbrev pub givenCprpty : ℤ → List ℕ → Given
+givenCprpty number value = givenOwned Cell number value
+
+abbrev pub givenProperty : ℤ → List ℕ → Given
+givenProperty number value = givenOwned Object number value
 
 unfoldable pub givenLayer : LayerNo → DataType → Option (List ℕ) → Given
 givenLayer number datatype name =

@@ -3,7 +3,7 @@
 ghost use mathlib.Core.Path.{_≡_};
 ghost use Prim.Native.Nat.{_+_, _*_, _/_, _≤_};
 ghost use lib.ListN.{length};
-ghost use Rattle.cgx_writing.specs.Given.{dateBytes, styleOf};
+ghost use Rattle.cgx_writing.specs.Given.{dateBytes, styleOf, propertyKind};
 ghost use Rattle.cgx_writing.specs.Typed.{Longs};
 ghost use Rattle.cgx_writing.specs.Srefs.{widthIf, srefSize};
 ghost use Rattle.cgx_writing.specs.Writing.{firstWriter};
@@ -22,6 +22,7 @@ use cgx_kinds::Wire;
 use cgx_numbers::LONG_SIZE;
 use cgx_numbers::WordBytes;
 use cgx_numbers::short_bytes;
+use cgx_spec::Kind;
 
 // ---- what is given
 
@@ -42,6 +43,23 @@ impl EndStyle {
         match self {
             EndStyle::Unstated => EndStyle::DEFAULT,
             EndStyle::Stated(style) => style,
+        }
+    }
+}
+
+// What a property is of: the cell (CPRPTY), or the object that follows (PROPERTY).
+pub enum Owner {
+    Cell,
+    Object,
+}
+
+impl Owner {
+    pub fn kind(self) -> Kind
+        ensures { λ r. ⌜ r ≡ propertyKind self ⌝ }
+    {
+        match self {
+            Owner::Cell => Kind::Cprpty,
+            Owner::Object => Kind::Property,
         }
     }
 }

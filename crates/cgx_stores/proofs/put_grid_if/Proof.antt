@@ -17,7 +17,7 @@ put-longs-requires : tie.Need-put-longs-requires
 put-longs-requires c κs =
     let i = c .before .before .before .before in
     let a = i .before .before .before .before .before .before .args in
-    omega (arith, wide-on (a .stands) 24 (i .if1 .taken))
+    omega (arith, wide-on (a .set) 24 (i .if1 .taken))
 
 add-result : tie.Need-add-result
 add-result c = search needs
@@ -35,14 +35,14 @@ returns c =
     let k = r .before in
     let a = k .before .before .args in
     let h = longs-held (a .grid) (k .struct-told .given .0 .1) (r .struct-told2 .given .1 .0 .1) (v .struct-told3 .given .0 .1) (v .struct-told3 .given .1 .0 .1) (u .struct-told4 .given .0 .1) (u .struct-told4 .given .1 .0 .1) in (
-      ap (λ (n : ℕ). a .at + n) (wide-on (a .stands) 24 (i .if1 .taken)),
-      f .put-longs .ensures ∙ ap (λ (zs : List ℤ). put (a .buf .now) (a .at) (longsBytes zs)) h ∙ ap (put (a .buf .now) (a .at)) (grid-on (a .stands) (a .grid) (i .if1 .taken)),
+      ap (λ (n : ℕ). a .at + n) (wide-on (a .set) 24 (i .if1 .taken)),
+      f .put-longs .ensures ∙ ap (λ (zs : List ℤ). put (a .buf .now) (a .at) (longsBytes zs)) h ∙ ap (put (a .buf .now) (a .at)) (grid-on (a .set) (a .grid) (i .if1 .taken)),
     )
 
 returns-2 : tie.Need-returns-2
 returns-2 c =
     let a = c .before .before .before .before .before .before .args in
-    (wide-off (a .stands) 24 (a .at) (c .if1 .left), grid-off (a .stands) (a .grid) (a .buf .now) (a .at) (c .if1 .left))
+    (wide-off (a .set) 24 (a .at) (c .if1 .left), grid-off (a .set) (a .grid) (a .buf .now) (a .at) (c .if1 .left))
 
 pub put-grid-if-spec : {M : Type 1} → statement M
 put-grid-if-spec =

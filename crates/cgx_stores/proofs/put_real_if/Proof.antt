@@ -17,7 +17,7 @@ slice-aggregate-put-bytes c = search needs
 put-bytes-requires : tie.Need-put-bytes-requires
 put-bytes-requires c κs =
     let i = c .before .before .before .before in
-    omega (arith, wide-on (i .before .before .args .stands) 8 (i .if1 .taken))
+    omega (arith, wide-on (i .before .before .args .set) 8 (i .if1 .taken))
 
 add-result : tie.Need-add-result
 add-result c = search needs
@@ -31,14 +31,14 @@ returns c =
     let n = f .before .before .before in
     let i = n .before .before in
     let a = i .before .before .args in (
-      ap (λ (k : ℕ). a .at + k) (wide-on (a .stands) 8 (i .if1 .taken)),
-      f .put-bytes .ensures ∙ ap (put (a .buf .now) (a .at)) (n .normal-bytes .ensures ∙ real-on (a .stands) (a .real .now) (i .if1 .taken)),
+      ap (λ (k : ℕ). a .at + k) (wide-on (a .set) 8 (i .if1 .taken)),
+      f .put-bytes .ensures ∙ ap (put (a .buf .now) (a .at)) (n .normal-bytes .ensures ∙ real-on (a .set) (a .real .now) (i .if1 .taken)),
     )
 
 returns-2 : tie.Need-returns-2
 returns-2 c =
     let a = c .before .before .args in
-    (wide-off (a .stands) 8 (a .at) (c .if1 .left), real-off (a .stands) (a .real .now) (a .buf .now) (a .at) (c .if1 .left))
+    (wide-off (a .set) 8 (a .at) (c .if1 .left), real-off (a .set) (a .real .now) (a .buf .now) (a .at) (c .if1 .left))
 
 pub put-real-if-spec : {M : Type 1} → statement M
 put-real-if-spec =

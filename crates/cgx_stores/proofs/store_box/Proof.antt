@@ -1,21 +1,17 @@
--- The header and the sides, one behind the other, are the bytes of the record.
-use mathlib.Core.Path.{ap, _∙_}
-use mathlib.Core.List.{List}
-use Prim.Native.Nat.{ℕ, _+_}
-use Rattle.cgx_put.specs.Put.{put, longsBytes}
-use Rattle.cgx_stores.proofs.Stored.{box-store}
+-- The header and the longs, one after the other, are the bytes of the record.
+use mathlib.Core.Path.{_∙_}
+use Prim.Native.Nat.{_+_}
+use Rattle.cgx_put.specs.Put.{longsBytes}
+use Rattle.cgx_writing.specs.Given.{stored, givenBox}
+use Rattle.cgx_writing.proofs.Sizes.{box-size}
+use Rattle.cgx_writing.proofs.Widths.{record-put}
+use Rattle.cgx_stores.proofs.Chain.{onto}
 use borrow.Author.Needs.{needs}
 use Rattle.cgx_stores.proofs.store_box.Statement.{statement}
 use Rattle.cgx_stores.proofs.store_box.Tie as tie
 
-mul-put-header : tie.Need-mul-put-header
-mul-put-header c = search needs
-
-add-put-header : tie.Need-add-put-header
-add-put-header c = search needs
-
-cast-put-header : tie.Need-cast-put-header
-cast-put-header c = search needs
+box-size-requires : tie.Need-box-size-requires
+box-size-requires c κs = search needs
 
 put-header-requires : tie.Need-put-header-requires
 put-header-requires c κs = search needs
@@ -30,23 +26,11 @@ same-length : tie.Need-same-length
 same-length c = search needs
 
 returns : tie.Need-returns
+unfolding givenBox stored
 returns c =
-    let f2 = c .before .before in
-    let f1 = f2 .before .before .before .before in
-    let a = f1 .before .before .before .args in
-    f2 .put-longs .ensures
-    ∙ ap (λ (x : List ℕ). put x (a .at + 4) (longsBytes (a .sides .now))) (f1 .put-header .ensures)
-    ∙ box-store (a .sides .now) (a .buf .now) (a .at)
+    let a = c .before .before .before .before .before .before .before .before .before .before .args in
+    onto (a .at + 4) (longsBytes (a .sides .now)) (c .before .before .put-longs .ensures) (c .before .before .before .before .before .before .put-header .ensures)
+    ∙ record-put (givenBox (a .sides .now)) (a .buf .now) (a .at) (c .before .before .before .before .before .before .before .box-size .result) (c .before .before .before .before .before .before .before .box-size .ensures ∙ box-size (a .sides .now))
 
 pub store-box-spec : {M : Type 1} → statement M
-store-box-spec =
-    tie.close
-    (tie.spec
-    mul-put-header
-    add-put-header
-    cast-put-header
-    put-header-requires
-    add-put-longs
-    put-longs-requires
-    same-length
-    returns)
+store-box-spec = tie.close (tie.spec box-size-requires put-header-requires add-put-longs put-longs-requires same-length returns)

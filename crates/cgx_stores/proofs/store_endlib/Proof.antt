@@ -1,12 +1,11 @@
 -- The header is the whole record.
 use mathlib.Core.Path.{_∙_}
-use Rattle.cgx_stores.proofs.Stored.{endlib-store}
+use Rattle.cgx_writing.specs.Given.{givenEndlib}
+use Rattle.cgx_writing.proofs.Sizes.{endlib-size}
+use Rattle.cgx_writing.proofs.Widths.{record-put}
 use borrow.Author.Needs.{needs}
 use Rattle.cgx_stores.proofs.store_endlib.Statement.{statement}
 use Rattle.cgx_stores.proofs.store_endlib.Tie as tie
-
-cast-put-header : tie.Need-cast-put-header
-cast-put-header c = search needs
 
 put-header-requires : tie.Need-put-header-requires
 put-header-requires c κs = search needs
@@ -15,10 +14,10 @@ same-length : tie.Need-same-length
 same-length c = search needs
 
 returns : tie.Need-returns
+unfolding givenEndlib
 returns c =
-    let f = c .before .before in
-    let a = f .before .before .before .args in
-    f .put-header .ensures ∙ endlib-store (a .buf .now) (a .at)
+    let a = c .before .before .before .before .before .args in
+    c .before .before .put-header .ensures ∙ record-put givenEndlib (a .buf .now) (a .at) 4 endlib-size
 
 pub store-endlib-spec : {M : Type 1} → statement M
-store-endlib-spec = tie.close (tie.spec cast-put-header put-header-requires same-length returns)
+store-endlib-spec = tie.close (tie.spec put-header-requires same-length returns)

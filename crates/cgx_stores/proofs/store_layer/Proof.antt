@@ -1,16 +1,17 @@
 -- The header and the two numbers, one after the other, are the bytes of the record.
-use mathlib.Core.Path.{ap, _∙_}
-use mathlib.Core.List.{List, _++_}
-use Prim.Native.Nat.{ℕ, _+_}
+use mathlib.Core.Path.{sym, _∙_}
+use mathlib.Core.List.{_++_}
+use mathlib.Core.Option.{none}
+use Prim.Native.Nat.{_+_}
 use Rattle.cgx_spec.specs.Numbers.{shortBytes}
-use Rattle.cgx_put.specs.Put.{put}
-use Rattle.cgx_stores.proofs.Stored.{layer-store}
+use Rattle.cgx_put.proofs.Puts.{put-nil}
+use Rattle.cgx_writing.specs.Given.{stored, givenLayer}
+use Rattle.cgx_writing.proofs.Sizes.{layer-size}
+use Rattle.cgx_writing.proofs.Widths.{record-put}
+use Rattle.cgx_stores.proofs.Chain.{onto, two-shorts}
 use borrow.Author.Needs.{needs}
 use Rattle.cgx_stores.proofs.store_layer.Statement.{statement}
 use Rattle.cgx_stores.proofs.store_layer.Tie as tie
-
-cast-put-header : tie.Need-cast-put-header
-cast-put-header c = search needs
 
 put-header-requires : tie.Need-put-header-requires
 put-header-requires c κs = search needs
@@ -25,21 +26,11 @@ same-length : tie.Need-same-length
 same-length c = search needs
 
 returns : tie.Need-returns
+unfolding givenLayer stored
 returns c =
-    let f2 = c .before .before in
-    let f1 = f2 .before .before .before .before in
-    let a = f1 .before .before .before .args in
-    f2 .put-layer-numbers .ensures
-    ∙ ap (λ (x : List ℕ). put x (a .at + 4) (shortBytes (a .number .0) ++ shortBytes (a .datatype .0))) (f1 .put-header .ensures)
-    ∙ layer-store (a .number) (a .datatype) (a .buf .now) (a .at)
+    let a = c .before .before .before .before .before .before .before .before .before .args in
+    (onto (a .at + 4) (shortBytes (a .number .0) ++ shortBytes (a .datatype .0)) (c .before .before .put-layer-numbers .ensures) (c .before .before .before .before .before .before .put-header .ensures) ∙ two-shorts _ (a .at) (a .number .0) (a .datatype .0)) ∙ sym (put-nil _ (a .at + 8))
+    ∙ record-put (givenLayer (a .number) (a .datatype) none) (a .buf .now) (a .at) 8 (layer-size (a .number) (a .datatype))
 
 pub store-layer-spec : {M : Type 1} → statement M
-store-layer-spec =
-    tie.close
-    (tie.spec
-    cast-put-header
-    put-header-requires
-    add-put-layer-numbers
-    put-layer-numbers-requires
-    same-length
-    returns)
+store-layer-spec = tie.close (tie.spec put-header-requires add-put-layer-numbers put-layer-numbers-requires same-length returns)

@@ -1,28 +1,19 @@
--- The header, the two normal reals, the two dates and the name, one behind the other, are the bytes of the record.
+-- The header, the two normal reals, the two dates and the name, one after the other, are the bytes of the record.
 use mathlib.Core.Path.{_∙_}
-use Prim.Native.Nat.{_+_, _*_, _/_}
+use Prim.Native.Nat.{_+_}
 use native.Mathlib.Omega.{arith}
-use lib.ListN.{length}
 use Rattle.cgx_spec.specs.Reals.{normalReal}
 use Rattle.cgx_spec.specs.Strings.{padded}
-use Rattle.cgx_spec.specs.Kinds.{flagsFor, meant, flagsOf}
-use Rattle.cgx_spec.specs.Restated.{typeByte}
 use Rattle.cgx_put.proofs.Padding.{length-padded}
 use Rattle.cgx_writing.specs.Given.{dateBytes, stored, givenLibrary}
 use Rattle.cgx_writing.proofs.Widths.{library-size, record-put}
-use Rattle.cgx_stores.proofs.Behind.{behind}
+use Rattle.cgx_stores.proofs.Chain.{onto}
 use borrow.Author.Needs.{needs}
 use Rattle.cgx_stores.proofs.store_library.Statement.{statement}
 use Rattle.cgx_stores.proofs.store_library.Tie as tie
 
-mul-put-header : tie.Need-mul-put-header
-mul-put-header c = search needs
-
-add-put-header : tie.Need-add-put-header
-add-put-header c = search needs
-
-cast-put-header : tie.Need-cast-put-header
-cast-put-header c = search needs
+library-size-requires : tie.Need-library-size-requires
+library-size-requires c κs = search needs
 
 put-header-requires : tie.Need-put-header-requires
 put-header-requires c κs = search needs
@@ -55,51 +46,20 @@ add-put-text : tie.Need-add-put-text
 add-put-text c = search needs
 
 put-text-requires : tie.Need-put-text-requires
-put-text-requires c κs =
-    let d2 = c .before .before .before in
-    let d1 = d2 .before .before .before .before in
-    let r2 = d1 .before .before .before .before in
-    let r1 = r2 .before .before .before .before in
-    let h = r1 .before .before .before .before in
-    omega (arith, length-padded (h .before .before .before .before .args .name .now))
+put-text-requires c κs = omega (arith, length-padded (c .before .before .before .before .before .before .before .before .before .before .before .before .before .before .before .before .before .before .before .before .before .before .before .before .args .name .now))
 
 same-length : tie.Need-same-length
 same-length c = search needs
 
 returns : tie.Need-returns
-unfolding givenLibrary stored typeByte flagsOf flagsFor meant
+unfolding givenLibrary stored
 returns c =
-    let t = c .before .before in
-    let d2 = t .before .before .before .before in
-    let d1 = d2 .before .before .before .before in
-    let r2 = d1 .before .before .before .before in
-    let r1 = r2 .before .before .before .before in
-    let h = r1 .before .before .before .before in
-    let a = h .before .before .before .before .args in
-    let n = a .name .now in
-    behind (a .at + 36) (padded n) (t .put-text .ensures)
-    (behind (a .at + 28) (dateBytes (a .modified)) (d2 .put-date2 .ensures)
-    (behind (a .at + 20) (dateBytes (a .created)) (d1 .put-date .ensures)
-    (behind (a .at + 12) (normalReal (a .uunit)) (r2 .put-real2 .ensures) (behind (a .at + 4) (normalReal (a .munit)) (r1 .put-real .ensures) (h .put-header .ensures)))))
-    ∙ record-put (givenLibrary (a .version) (a .munit) (a .uunit) (a .created) (a .modified) n) (a .buf .now) (a .at) (38 + length n / 2 * 2) (library-size (a .version) (a .munit) (a .uunit) (a .created) (a .modified) n)
+    let a = c .before .before .before .before .before .before .before .before .before .before .before .before .before .before .before .before .before .before .before .before .before .before .before .before .before .before .before .args in
+    onto (a .at + 36) (padded (a .name .now)) (c .before .before .put-text .ensures)
+    (onto (a .at + 28) (dateBytes (a .modified)) (c .before .before .before .before .before .before .put-date2 .ensures)
+    (onto (a .at + 20) (dateBytes (a .created)) (c .before .before .before .before .before .before .before .before .before .before .put-date .ensures)
+    (onto (a .at + 12) (normalReal (a .uunit)) (c .before .before .before .before .before .before .before .before .before .before .before .before .before .before .put-real2 .ensures) (onto (a .at + 4) (normalReal (a .munit)) (c .before .before .before .before .before .before .before .before .before .before .before .before .before .before .before .before .before .before .put-real .ensures) (c .before .before .before .before .before .before .before .before .before .before .before .before .before .before .before .before .before .before .before .before .before .before .put-header .ensures)))))
+    ∙ record-put (givenLibrary (a .version) (a .munit) (a .uunit) (a .created) (a .modified) (a .name .now)) (a .buf .now) (a .at) (c .before .before .before .before .before .before .before .before .before .before .before .before .before .before .before .before .before .before .before .before .before .before .before .library-size .result) (c .before .before .before .before .before .before .before .before .before .before .before .before .before .before .before .before .before .before .before .before .before .before .before .library-size .ensures ∙ library-size (a .version) (a .munit) (a .uunit) (a .created) (a .modified) (a .name .now))
 
 pub store-library-spec : {M : Type 1} → statement M
-store-library-spec =
-    tie.close
-    (tie.spec
-    mul-put-header
-    add-put-header
-    cast-put-header
-    put-header-requires
-    add-put-real
-    put-real-requires
-    add-put-real-2
-    put-real-requires-2
-    add-put-date
-    put-date-requires
-    add-put-date-2
-    put-date-requires-2
-    add-put-text
-    put-text-requires
-    same-length
-    returns)
+store-library-spec = tie.close (tie.spec library-size-requires put-header-requires add-put-real put-real-requires add-put-real-2 put-real-requires-2 add-put-date put-date-requires add-put-date-2 put-date-requires-2 add-put-text put-text-requires same-length returns)

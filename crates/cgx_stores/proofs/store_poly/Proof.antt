@@ -1,21 +1,17 @@
--- The header and the points, one behind the other, are the bytes of the record.
-use mathlib.Core.Path.{ap, _∙_}
-use mathlib.Core.List.{List}
-use Prim.Native.Nat.{ℕ, _+_}
-use Rattle.cgx_put.specs.Put.{put, longsBytes}
-use Rattle.cgx_stores.proofs.Polys.{poly-store}
+-- The header and the longs, one after the other, are the bytes of the record.
+use mathlib.Core.Path.{_∙_}
+use Prim.Native.Nat.{_+_}
+use Rattle.cgx_put.specs.Put.{longsBytes}
+use Rattle.cgx_writing.specs.Given.{stored, givenPoly}
+use Rattle.cgx_writing.proofs.Polys.{poly-size}
+use Rattle.cgx_writing.proofs.Widths.{record-put}
+use Rattle.cgx_stores.proofs.Chain.{onto}
 use borrow.Author.Needs.{needs}
 use Rattle.cgx_stores.proofs.store_poly.Statement.{statement}
 use Rattle.cgx_stores.proofs.store_poly.Tie as tie
 
-mul-put-header : tie.Need-mul-put-header
-mul-put-header c = search needs
-
-add-put-header : tie.Need-add-put-header
-add-put-header c = search needs
-
-cast-put-header : tie.Need-cast-put-header
-cast-put-header c = search needs
+poly-size-requires : tie.Need-poly-size-requires
+poly-size-requires c κs = search needs
 
 put-header-requires : tie.Need-put-header-requires
 put-header-requires c κs = search needs
@@ -30,23 +26,11 @@ same-length : tie.Need-same-length
 same-length c = search needs
 
 returns : tie.Need-returns
+unfolding givenPoly stored
 returns c =
-    let f2 = c .before .before in
-    let f1 = f2 .before .before .before .before in
-    let a = f1 .before .before .before .args in
-    f2 .put-longs .ensures
-    ∙ ap (λ (x : List ℕ). put x (a .at + 4) (longsBytes (a .points .now))) (f1 .put-header .ensures)
-    ∙ poly-store (a .points .now) (a .buf .now) (a .at)
+    let a = c .before .before .before .before .before .before .before .before .before .before .args in
+    onto (a .at + 4) (longsBytes (a .points .now)) (c .before .before .put-longs .ensures) (c .before .before .before .before .before .before .put-header .ensures)
+    ∙ record-put (givenPoly (a .points .now)) (a .buf .now) (a .at) (c .before .before .before .before .before .before .before .poly-size .result) (c .before .before .before .before .before .before .before .poly-size .ensures ∙ poly-size (a .points .now))
 
 pub store-poly-spec : {M : Type 1} → statement M
-store-poly-spec =
-    tie.close
-    (tie.spec
-    mul-put-header
-    add-put-header
-    cast-put-header
-    put-header-requires
-    add-put-longs
-    put-longs-requires
-    same-length
-    returns)
+store-poly-spec = tie.close (tie.spec poly-size-requires put-header-requires add-put-longs put-longs-requires same-length returns)

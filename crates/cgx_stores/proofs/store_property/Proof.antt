@@ -1,32 +1,30 @@
--- The header, the number and the string, one behind the other, are the bytes of the record.
+-- The header, the number and the value, one after the other, are the bytes of the record.
 use mathlib.Core.Path.{ap, _∙_}
-use Prim.Native.Nat.{_+_, _*_, _/_}
+use mathlib.Core.List.{[], _∷_}
+use Prim.Native.Nat.{_+_, _/_, _%_}
 use native.Mathlib.Omega.{arith}
 use lib.IntN.{ℤ}
-use lib.ListN.{length}
 use mir.Syntax.{w32}
 use mir.ValLaws.{toZ-ofZ}
 use Rattle.cgx_spec.specs.Numbers.{longBytes}
+use Rattle.cgx_spec.specs.declared.Kind.{Kind}
 use Rattle.cgx_spec.specs.Strings.{padded}
-use Rattle.cgx_spec.specs.Kinds.{flagsFor, meant, flagsOf}
+use Rattle.cgx_spec.specs.Kinds.{flagsOf}
 use Rattle.cgx_spec.specs.Restated.{typeByte}
 use Rattle.cgx_put.specs.Put.{put, longsBytes}
 use Rattle.cgx_put.proofs.Padding.{length-padded}
-use Rattle.cgx_writing.specs.Given.{stored, givenProperty}
-use Rattle.cgx_writing.proofs.Widths.{property-size, record-put}
-use Rattle.cgx_stores.proofs.Behind.{behind}
+use Rattle.cgx_writing.specs.Given.{stored, givenOwned}
+use Rattle.cgx_writing.proofs.Widths.{owned-size, record-put}
+use Rattle.cgx_stores.proofs.Chain.{onto}
 use borrow.Author.Needs.{needs}
 use Rattle.cgx_stores.proofs.store_property.Statement.{statement}
 use Rattle.cgx_stores.proofs.store_property.Tie as tie
 
-mul-put-header : tie.Need-mul-put-header
-mul-put-header c = search needs
+kind-requires : tie.Need-kind-requires
+kind-requires c κs = search needs
 
-add-put-header : tie.Need-add-put-header
-add-put-header c = search needs
-
-cast-put-header : tie.Need-cast-put-header
-cast-put-header c = search needs
+property-size-requires : tie.Need-property-size-requires
+property-size-requires c κs = search needs
 
 put-header-requires : tie.Need-put-header-requires
 put-header-requires c κs = search needs
@@ -41,38 +39,19 @@ add-put-text : tie.Need-add-put-text
 add-put-text c = search needs
 
 put-text-requires : tie.Need-put-text-requires
-put-text-requires c κs =
-    let n = c .before .before .before in
-    let h = n .before .before .before .before in
-    omega (arith, length-padded (h .before .before .before .before .args .value .now))
+put-text-requires c κs = omega (arith, length-padded (c .before .before .before .before .before .before .before .before .before .before .before .before .before .args .value .now))
 
 same-length : tie.Need-same-length
 same-length c = search needs
 
 returns : tie.Need-returns
-unfolding givenProperty stored longsBytes longBytes typeByte flagsOf flagsFor meant
+unfolding givenOwned stored longsBytes longBytes
 returns c =
-    let t = c .before .before in
-    let n = t .before .before .before .before in
-    let h = n .before .before .before .before in
-    let s = h .before .before .before .before in
-    let a = s .args in
-    let v = a .value .now in
-    let e = n .put-long .ensures ∙ ap (λ (z : ℤ). put (h .put-header .last .0) (a .at + 4) (longBytes z)) (toZ-ofZ w32 (a .number) (s .fits .number)) in
-    behind (a .at + 8) (padded v) (t .put-text .ensures) (behind (a .at + 4) (longBytes (a .number)) e (h .put-header .ensures))
-    ∙ record-put (givenProperty (a .number) v) (a .buf .now) (a .at) (10 + length v / 2 * 2) (property-size (a .number) v)
+    let a = c .before .before .before .before .before .before .before .before .before .before .before .before .before .before .before .before .args in
+    let s = c .before .before .before .before .before .before .before .before .before .before .before .property-size .result in
+    let h = c .before .before .before .before .before .before .before .before .before .before .put-header .ensures ∙ ap (λ (k : Kind). put (a .buf .now) (a .at) (s / 256 ∷ s % 256 ∷ typeByte k ∷ flagsOf k 0 ∷ [])) (c .before .before .before .before .before .before .before .before .before .before .before .before .kind .ensures) in
+    onto (a .at + 8) (padded (a .value .now)) (c .before .before .put-text .ensures) (onto (a .at + 4) (longBytes (a .number)) (c .before .before .before .before .before .before .put-long .ensures ∙ ap (λ (z : ℤ). put (c .before .before .before .before .before .before .before .before .before .before .put-header .last .0) (a .at + 4) (longBytes z)) (toZ-ofZ w32 (a .number) (c .before .before .before .before .before .before .before .before .before .before .before .before .before .before .before .before .fits .number))) h)
+    ∙ record-put (givenOwned (a .owner) (a .number) (a .value .now)) (a .buf .now) (a .at) (c .before .before .before .before .before .before .before .before .before .before .before .property-size .result) (c .before .before .before .before .before .before .before .before .before .before .before .property-size .ensures ∙ owned-size (a .owner) (a .number) (a .value .now))
 
 pub store-property-spec : {M : Type 1} → statement M
-store-property-spec =
-    tie.close
-    (tie.spec
-    mul-put-header
-    add-put-header
-    cast-put-header
-    put-header-requires
-    add-put-long
-    put-long-requires
-    add-put-text
-    put-text-requires
-    same-length
-    returns)
+store-property-spec = tie.close (tie.spec kind-requires property-size-requires put-header-requires add-put-long put-long-requires add-put-text put-text-requires same-length returns)
