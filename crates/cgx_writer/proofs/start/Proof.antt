@@ -1,5 +1,5 @@
 -- A buffer of four bytes or more holds the header then; a shorter one is untouched.
-use Rattle.cgx_plans.proofs.Order.{starts, starts-not}
+use Rattle.cgx_writing.proofs.Calls.{starts, starts-not}
 use borrow.Author.Needs.{needs}
 use Rattle.cgx_writer.proofs.start.Statement.{statement}
 use Rattle.cgx_writer.proofs.start.Tie as tie
@@ -13,24 +13,11 @@ slice-aggregate-put-bytes c = search needs
 put-bytes-requires : tie.Need-put-bytes-requires
 put-bytes-requires c κs = search needs
 
-start-requires : tie.Need-start-requires
-start-requires c κs = search needs
-
 same-length : tie.Need-same-length
 same-length c = search needs
 
 returns-2 : tie.Need-returns-2
-returns-2 c =
-    let i = c .before .before .before .before .before .before in
-    starts (i .before .before .args .buf .now) (c .before .before .before .put-bytes .last .0) (c .start .result) (i .if1 .left) (c .start .ensures) (c .before .before .before .put-bytes .ensures)
+returns-2 c = starts (c .before .before .before .before .before .before .before .args .buf .now) (c .before .before .put-bytes .last .0) (c .before .before .before .before .before .if1 .left) (c .before .before .put-bytes .ensures)
 
 pub start-spec : {M : Type 1} → statement M
-start-spec =
-    tie.close
-    (tie.spec
-    returns
-    slice-aggregate-put-bytes
-    put-bytes-requires
-    start-requires
-    same-length
-    returns-2)
+start-spec = tie.close (tie.spec returns slice-aggregate-put-bytes put-bytes-requires same-length returns-2)
