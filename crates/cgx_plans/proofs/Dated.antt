@@ -11,7 +11,7 @@ use Rattle.cgx_spec.specs.Numbers.{shortBytes}
 use Rattle.cgx_spec.specs.Reals.{positiveReal}
 use Rattle.cgx_spec.specs.Dates.{calendar, goodDate}
 use Rattle.cgx_spec.specs.Fields.{ruleOf}
-use Rattle.cgx_spec.specs.Kinds.{flagsFor, allows, goodFlags, layout}
+use Rattle.cgx_spec.specs.Kinds.{layout}
 use Rattle.cgx_spec.specs.Records.{broken}
 use Rattle.cgx_spec.proofs.Lists.{and-true}
 use Rattle.cgx_bodies.specs.Bodies.{numberOr0}
@@ -63,7 +63,7 @@ module _ (version : ℕ) (munit uunit : List ℕ) (created modified : Date) (nam
       → later ≡ first scales text
       → fault ≡ first dates later
       → fault ≡ givenFault (givenLibrary version munit uunit created modified name)
-  unfolding givenFault givenLibrary broken goodFlags allows flagsFor enoughGiven layout keepsGiven enough goodItem ruleOf
+  unfolding givenFault givenLibrary broken enoughGiven layout keepsGiven enough goodItem ruleOf
   library-fault dates scales text later fault d s t l f =
       f ∙ ap₂ first d (l ∙ ap₂ first s t) ∙ ascending (calendar (dateBytes created)) (calendar (dateBytes modified)) (positiveReal munit) (positiveReal uunit) (noZero name)
 
@@ -73,11 +73,11 @@ module _ (created modified : Date) (name : List ℕ) where
       → text ≡ textFault name
       → fault ≡ first dates text
       → fault ≡ givenFault (givenStruct created modified name)
-  unfolding givenFault givenStruct broken goodFlags allows flagsFor enoughGiven layout keepsGiven enough goodItem ruleOf
+  unfolding givenFault givenStruct broken enoughGiven layout keepsGiven enough goodItem ruleOf
   struct-fault dates text fault d t f = f ∙ ap₂ first d t ∙ ascending (calendar (dateBytes created)) (calendar (dateBytes modified)) true true (noZero name)
 
 module _ (number : ℤ) (value : List ℕ) where
   pub owned-fault : (owner : Owner) → textFault value ≡ givenFault (givenOwned owner number value)
-  unfolding givenFault givenOwned broken goodFlags allows flagsFor enoughGiven layout keepsGiven enough groups goodItem goodList meets ruleOf
+  unfolding givenFault givenOwned broken enoughGiven layout keepsGiven enough groups goodItem goodList meets ruleOf
   owned-fault Cell = ascending true true true true (noZero value)
   owned-fault Object = ascending true true true true (noZero value)

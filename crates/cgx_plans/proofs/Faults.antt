@@ -10,7 +10,7 @@ use lib.Dec.{leb, eqb}
 use lib.IntN.{ℤ}
 use lib.ListN.{length}
 use Rattle.cgx_spec.specs.Fields.{inOrder, ruleOf}
-use Rattle.cgx_spec.specs.Kinds.{flagsFor, allows, goodFlags, layout}
+use Rattle.cgx_spec.specs.Kinds.{layout}
 use Rattle.cgx_spec.specs.Records.{broken}
 use Rattle.cgx_bodies.specs.Bodies.{numberOr0}
 use Rattle.cgx_fields.specs.Zeros.{noZero}
@@ -25,7 +25,7 @@ use Rattle.cgx_plans.specs.Plans.{textFault, wireFault, givenFault}
 
 module _ (n : LayerNo) (d : DataType) where
   pub layer-fault : 0 ≡ givenFault (givenLayer n d none)
-  unfolding givenFault givenLayer broken goodFlags allows flagsFor enoughGiven layout keepsGiven enough goodItem ruleOf
+  unfolding givenFault givenLayer broken enoughGiven layout keepsGiven enough goodItem ruleOf
   layer-fault = refl
 
 -- ---- BOX
@@ -36,7 +36,7 @@ few u l false e f = simp e
 
 module _ (zs : List ℤ) where
   box-fault : cond (eqb (length zs % 4) 0 && leb 1 (length zs / 4)) (cond (inOrder zs) 0 10) 8 ≡ givenFault (givenBox zs)
-  unfolding givenFault givenBox broken goodFlags allows flagsFor enoughGiven layout keepsGiven enough groups goodItem goodList meets ruleOf
+  unfolding givenFault givenBox broken enoughGiven layout keepsGiven enough groups goodItem goodList meets ruleOf
   box-fault = one (eqb (length zs % 4) 0 && leb 1 (length zs / 4)) (inOrder zs)
     where
       one : (a b : Bool) → cond a (cond b 0 10) 8 ≡ numberOr0 (cond (a && true) (cond (b && true) none (some 10)) (some 8))
@@ -69,7 +69,7 @@ eleven false = refl
 
 module _ (n : LayerNo) (d : DataType) (t : List ℕ) where
   pub named-fault : textFault t ≡ givenFault (givenLayer n d (some t))
-  unfolding givenFault givenLayer broken goodFlags allows flagsFor enoughGiven layout keepsGiven enough goodItem ruleOf
+  unfolding givenFault givenLayer broken enoughGiven layout keepsGiven enough goodItem ruleOf
   named-fault = eleven (noZero t)
 
 -- ---- WIRE
@@ -92,7 +92,7 @@ unfolding wireFault
 wire-is s fl n q b h e = let t : leb s 2 ≡ true = le-leb s 2 (omega arith) in rw (t, e)
 
 pub wire-fault : (s : EndStyle) (w : ℤ) (zs : List ℤ) → wireFault (styleOf s) (length zs) ≡ givenFault (givenWire s w zs)
-unfolding wireFault givenFault givenWire broken goodFlags allows flagsFor enoughGiven layout keepsGiven enough groups goodItem goodList meets ruleOf
+unfolding wireFault givenFault givenWire broken enoughGiven layout keepsGiven enough groups goodItem goodList meets ruleOf
 wire-fault s w zs = one (leb (styleOf s) 2) (eqb (length zs % 2) 0 && leb 1 (length zs / 2))
   where
     one : (a b : Bool) → cond a (cond b 0 8) 7 ≡ numberOr0 (cond a (cond (b && true) none (some 8)) (some 7))
@@ -104,11 +104,11 @@ wire-fault s w zs = one (leb (styleOf s) 2) (eqb (length zs % 2) 0 && leb 1 (len
 
 module _ (fl : ℕ) (p : Point) (w : ℤ) (t : List ℕ) where
   pub label-fault : textFault t ≡ givenFault (givenText fl p w t)
-  unfolding givenFault givenText broken goodFlags allows flagsFor enoughGiven layout keepsGiven enough groups goodItem goodList meets ruleOf
+  unfolding givenFault givenText broken enoughGiven layout keepsGiven enough groups goodItem goodList meets ruleOf
   label-fault = eleven (noZero t)
 
 -- ---- ENDLIB
 
 pub endlib-fault : 0 ≡ givenFault givenEndlib
-unfolding givenFault givenEndlib broken goodFlags allows flagsFor enoughGiven layout keepsGiven
+unfolding givenFault givenEndlib broken enoughGiven layout keepsGiven
 endlib-fault = refl

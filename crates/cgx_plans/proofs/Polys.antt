@@ -14,7 +14,7 @@ use lib.Seq.{drop-cons, drop-length}
 use mir.Syntax.{w32}
 use mir.Val.{toZ, ofZ}
 use Rattle.cgx_spec.specs.Fields.{closed, ruleOf}
-use Rattle.cgx_spec.specs.Kinds.{flagsFor, allows, goodFlags, layout}
+use Rattle.cgx_spec.specs.Kinds.{layout}
 use Rattle.cgx_spec.specs.Records.{broken}
 use Rattle.cgx_bodies.specs.Bodies.{numberOr0}
 use Rattle.cgx_writing.specs.Given.{alike, meets, enough, groups, goodItem, goodList, enoughGiven, keepsGiven, givenPoly}
@@ -28,7 +28,7 @@ module _ (zs : List ℤ) where
   four-pairs = eqb (length zs % 2) 0 && leb 4 (length zs / 2)
 
   poly-fault : cond four-pairs (cond (meets closed zs) 0 12) 8 ≡ givenFault (givenPoly zs)
-  unfolding givenFault givenPoly broken goodFlags allows flagsFor enoughGiven layout keepsGiven enough groups goodItem goodList ruleOf
+  unfolding givenFault givenPoly broken enoughGiven layout keepsGiven enough groups goodItem goodList ruleOf
   poly-fault = one four-pairs (meets closed zs)
     where
       one : (a b : Bool) → cond a (cond b 0 12) 8 ≡ numberOr0 (cond (a && true) (cond (b && true) none (some 12)) (some 8))

@@ -13,7 +13,7 @@ use mir.Val.{toZ, ofZ}
 use mir.ValLaws.{toZ-ofZ}
 use Rattle.cgx_spec.specs.Reals.{positiveReal}
 use Rattle.cgx_spec.specs.Fields.{Field, real, positive, string, ones, ruleOf}
-use Rattle.cgx_spec.specs.Kinds.{flagsFor, allows, goodFlags, angle, magnif, array, onlyIf, count, long as long-field, point as point-field, layout}
+use Rattle.cgx_spec.specs.Kinds.{angle, magnif, array, onlyIf, count, long as long-field, point as point-field, layout}
 use Rattle.cgx_spec.specs.Records.{rule, broken}
 use Rattle.cgx_bodies.specs.Bodies.{numberOr0}
 use Rattle.cgx_fields.specs.Zeros.{noZero}
@@ -85,7 +85,7 @@ module _ (at : Point) (turn scale : List ℕ) (g : Grid) (t : List ℕ) where
   by-flags true false false false = textual (noZero t)
 
   pub sref-fault : (fl : ℕ) → srefFault fl scale g t ≡ givenFault (givenSref fl at turn scale g t)
-  unfolding srefFault givenFault givenSref goodFlags allows flagsFor enoughGiven keepsGiven layout
+  unfolding srefFault givenFault givenSref enoughGiven keepsGiven layout
   sref-fault fl = sym (by-flags (leb fl 15) (angle fl) (magnif fl) (array fl))
 
 -- ---- as the code finds them

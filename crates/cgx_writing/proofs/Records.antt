@@ -60,14 +60,14 @@ unkept n false rs e = absurd (let z : _≡_ {A = ℕ} 0 1 = cc in omega arith)
 -- ---- flags
 
 good-flags : (f : Flags) (fl : ℕ) → allows f (Kinds.meant f fl) ≡ allows f fl
-unfolding allows Kinds.meant
+unfolding Kinds.meant
 good-flags meaningless fl = refl
 good-flags version fl = refl
 good-flags (upTo n) fl = refl
 good-flags orientation fl = refl
 
 layout-flags : (k : Kind) (fl : ℕ) → layout k (flagsOf k fl) ≡ layout k fl
-unfolding layout flagsOf flagsFor Kinds.meant
+unfolding layout Kinds.meant
 layout-flags Library fl = refl
 layout-flags Struct fl = refl
 layout-flags Cprpty fl = refl
@@ -129,7 +129,7 @@ module _ (g : Given) (w : WellTyped g) where
         ≡ rule 6 here ∷ rule 7 (goodFlags (g .kind) (g .flags)) ∷ rule 8 (enoughGiven g) ∷ rule 9 (keepsGiven 9 g) ∷ rule 10 (keepsGiven 10 g) ∷ rule 11 (keepsGiven 11 g) ∷ rule 12 (keepsGiven 12 g) ∷ []
     unfolding rules
     reads-given here l =
-        let f : goodFlags (g .kind) (written g .flags) ≡ goodFlags (g .kind) (g .flags) = unfold written goodFlags flagsOf in (good-flags (flagsFor (g .kind)) (g .flags)) in
+        let f : goodFlags (g .kind) (written g .flags) ≡ goodFlags (g .kind) (g .flags) = unfold written in (good-flags (flagsFor (g .kind)) (g .flags)) in
         rw (f, fits-given l, keeps-given 8, keeps-given 9, keeps-given 10, keeps-given 11)
 
     same-number : (c : Context) → size (written g) ≤ maxSize → broken (rulesOf c g) ≡ cond (c .ended) (some 6) (faultOf c (written g))

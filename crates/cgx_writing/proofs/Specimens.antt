@@ -14,7 +14,7 @@ use Rattle.cgx_spec.specs.Reals.{negative, exponent, mantissa, pack, value as w
 use Rattle.cgx_spec.specs.Dates.{calendar}
 use Rattle.cgx_spec.specs.Strings.{padded}
 use Rattle.cgx_spec.specs.Fields.{ruleOf, inOrder}
-use Rattle.cgx_spec.specs.Kinds.{kindOf, flagsFor, allows, meant, goodFlags, flagsOf, layout}
+use Rattle.cgx_spec.specs.Kinds.{kindOf, goodFlags, layout}
 use Rattle.cgx_spec.specs.Order.{start, allowed}
 use Rattle.cgx_spec.specs.Records.{size, bytesOf, broken, contextAfter}
 use Rattle.cgx_spec.specs.Restated.{typeByte}
@@ -33,11 +33,11 @@ use Rattle.cgx_writing.specs.Demands.{Whole, Specimens}
 use Rattle.cgx_writing.proofs.Calling.{calls-promises}
 
 drawing-file : fileOf drawingCalls ≡ drawingNormal
-unfolding fileOf bytesOf written stored dateBytes untwos shortBytes longBytes longsBytes normalReal wordNormal negative exponent mantissa pack lower minus padded flagsOf flagsFor meant typeByte givenLibrary givenStruct givenLayer givenBox givenEndlib
+unfolding fileOf bytesOf written stored dateBytes untwos shortBytes longBytes longsBytes normalReal wordNormal negative exponent mantissa pack lower minus padded typeByte givenLibrary givenStruct givenLayer givenBox givenEndlib
 drawing-file = refl
 
 drawing-whole : Whole firstWriter drawingCalls
-unfolding firstWriter firstPlace start writerAfter placeAfter placeIn contextIn offsetIn runIn cursorOf stateOf contextAfter kindOf broken rulesOf allowed goodFlags allows flagsFor flagsOf meant enoughGiven keepsGiven groups enough noZero meets goodList goodItem layout ruleOf inOrder calendar positiveReal positive wordValue written stored dateBytes untwos shortBytes longBytes longsBytes normalReal wordNormal negative exponent mantissa pack lower minus padded typeByte givenLibrary givenStruct givenLayer givenBox givenEndlib
+unfolding firstWriter firstPlace start writerAfter placeAfter placeIn contextIn offsetIn runIn cursorOf stateOf contextAfter kindOf broken rulesOf allowed enoughGiven keepsGiven groups enough noZero meets goodList goodItem layout ruleOf inOrder calendar positiveReal positive wordValue written stored dateBytes untwos shortBytes longBytes longsBytes normalReal wordNormal negative exponent mantissa pack lower minus padded typeByte givenLibrary givenStruct givenLayer givenBox givenEndlib
 drawing-whole =
     let m = Bytes-cons 0x6d [] (omega arith) Bytes-nil in
     let a = Bytes-cons 0x61 [] (omega arith) Bytes-nil in
@@ -51,7 +51,7 @@ drawing-whole =
 
 module _ (sides : List ℤ) where
   flags-kept : goodFlags (givenBox sides .kind) (givenBox sides .flags) ≡ true
-  unfolding givenBox goodFlags allows flagsFor
+  unfolding givenBox
   flags-kept = refl
 
   whole-boxes : length sides ≡ 16384 → enoughGiven (givenBox sides) ≡ true
