@@ -60,14 +60,13 @@ unkept n false rs e = absurd (let z : _≡_ {A = ℕ} 0 1 = cc in omega arith)
 -- ---- flags
 
 good-flags : (f : Flags) (fl : ℕ) → allows f (Kinds.meant f fl) ≡ allows f fl
-unfolding Kinds.meant
 good-flags meaningless fl = refl
 good-flags version fl = refl
 good-flags (upTo n) fl = refl
 good-flags orientation fl = refl
 
 layout-flags : (k : Kind) (fl : ℕ) → layout k (flagsOf k fl) ≡ layout k fl
-unfolding layout Kinds.meant
+unfolding layout
 layout-flags Library fl = refl
 layout-flags Struct fl = refl
 layout-flags Cprpty fl = refl
