@@ -1,103 +1,111 @@
 -- What is proved of the makers: calls in turn that are all taken are the writer's calls, and a refusal is the first of them. Assumes nothing.
-use mathlib.Core.Path.{_≡_, refl, ap, _∙_}
+use mathlib.Core.Path.{_≡_, refl, sym, ap, _∙_}
+use mathlib.Core.Bool.{Bool, true, false, cond}
 use mathlib.Core.List.{List, [], _∷_, _++_}
 use Prim.Native.Nat.{ℕ, _≤_}
 use native.Mathlib.Omega.{arith}
+use borrow.Author.Tests.{eq-eqb, ne-eqb}
 use lib.IntN.{ℤ, pos}
 use lib.ListN.{length}
 use mir.Syntax.{w32}
 use mir.Val.{SFits}
-use Rattle.cgx_spec.specs.declared.Offset.{Offset}
-use Rattle.cgx_spec.specs.declared.Place.{Place}
 use Rattle.cgx_spec.specs.Numbers.{Bytes}
+use Rattle.cgx_spec.specs.Records.{bytesOf}
+use Rattle.cgx_put.specs.Put.{put}
 use Rattle.cgx_writing.specs.declared.EndStyle.the-variants.{Unstated}
+use Rattle.cgx_writing.specs.declared.Writer.{Writer}
 use Rattle.cgx_writing.specs.declared.Answer.{Answer}
-use Rattle.cgx_writing.specs.declared.Answer.the-variants.{Taken, Refused}
-use Rattle.cgx_writing.specs.Given.{Given}
+use Rattle.cgx_writing.specs.Given.{Given, written}
 use Rattle.cgx_writing.specs.Typed.{Longs, AllWell}
-use Rattle.cgx_writing.specs.Writing.{Outcome, callIn, placeOf, History, ifTaken, calls}
+use Rattle.cgx_writing.specs.Writing.{offsetOf, writerAfter, Outcome, isTaken, callIn, History, ifTaken, calls}
+use Rattle.cgx_writing.proofs.Calls.{by-outcome}
 use Rattle.cgx_writing.proofs.Calling.{calls-promises}
 use Rattle.cgx_writing.proofs.Ranges.{long-in}
-use Rattle.cgx_makers.specs.Makers.{corners, cardCalls, frameCalls, unlessRefused, inTurn, orNothing, allIn}
+use Rattle.cgx_makers.specs.Makers.{corners, cardCalls, frameCalls, inTurn, handedBack, allIn}
 use Rattle.cgx_makers.specs.Demand.{MakersDemand}
 
 -- ---- all
 
-abbrev AllTaken : List Given → Type 0
-AllTaken gs = (buf : List ℕ) (p q : Place) → inTurn buf p gs .answer ≡ Taken q → calls buf p gs ≡ record { taken = gs; place = q; buffer = inTurn buf p gs .buffer }
-
-one-taken : (g : Given) (gs : List Given) → AllTaken gs → (q : Place) (v : Outcome) (a : Answer) → v .answer ≡ a
-    → let w = unlessRefused a v (inTurn (v .buffer) (placeOf a) gs) in let h = calls (v .buffer) (placeOf a) gs in
-    let all : History = record { taken = ifTaken a g (h .taken); place = h .place; buffer = h .buffer } in
-    w .answer ≡ Taken q → all ≡ record { taken = g ∷ gs; place = q; buffer = w .buffer }
-one-taken g gs rest q v (Taken r) e t = ap (λ (h : History). record { taken = g ∷ h .taken; place = h .place; buffer = h .buffer }) (rest (v .buffer) r q t)
-one-taken g gs rest q v (Refused n o r) e t = absurd (let z : _≡_ {A = ℕ} 0 1 = cc in omega arith)
-
-all-taken : (gs : List Given) → AllTaken gs
+all-taken : (gs : List Given) (buf : List ℕ) (w : Writer) → let t = inTurn buf w gs in t .answer .number ≡ 0 → calls buf w gs ≡ record { taken = gs; writer = t .answer .writer; buffer = t .buffer }
 unfolding inTurn calls
-all-taken [] buf p q e = let s : p ≡ q = cc in ap (λ (x : Place). record { taken = []; place = x; buffer = buf }) s
-all-taken (g ∷ gs) buf p q e = one-taken g gs (all-taken gs) q (callIn buf p g) (callIn buf p g .answer) refl e
+all-taken [] buf w = λ z. refl
+all-taken (g ∷ gs) buf w =
+    by-outcome
+    (λ o. let t = cond (isTaken (o .answer)) (inTurn (o .buffer) (o .answer .writer) gs) o in let h = calls (o .buffer) (o .answer .writer) gs in
+    let all : History = record { taken = ifTaken (o .answer) g (h .taken); writer = h .writer; buffer = h .buffer } in
+    t .answer .number ≡ 0 → all ≡ record { taken = g ∷ gs; writer = t .answer .writer; buffer = t .buffer })
+    buf w g
+    (λ e z. ap (λ (h : History). record { taken = g ∷ h .taken; writer = h .writer; buffer = h .buffer }) (all-taken gs (put buf (offsetOf w) (bytesOf (written g))) (writerAfter w g) z))
+    (λ m e h. rw (ne-eqb m 0 h) (λ z. absurd (h z)))
 
 -- where all is taken, it is what the calls in turn leave
-kept : (buf : List ℕ) (p q : Place) (w : Outcome) (a : Answer) → w .answer ≡ a → orNothing buf p a w .answer ≡ Taken q → (w .answer ≡ Taken q) × (w .buffer ≡ orNothing buf p a w .buffer)
-kept buf p q w (Taken r) e t = (t, refl)
-kept buf p q w (Refused n o r) e t = absurd (let z : _≡_ {A = ℕ} 0 1 = cc in omega arith)
-
-maker-is : (buf : List ℕ) (p q : Place) (gs : List Given) → allIn buf p gs .answer ≡ Taken q → calls buf p gs ≡ record { taken = gs; place = q; buffer = allIn buf p gs .buffer }
+maker-is : (buf : List ℕ) (w : Writer) (gs : List Given) → let o = allIn buf w gs in o .answer .number ≡ 0 → calls buf w gs ≡ record { taken = gs; writer = o .answer .writer; buffer = o .buffer }
 unfolding allIn
-maker-is buf p q gs e =
-    let w = inTurn buf p gs in
-    let k = kept buf p q w (w .answer) refl e in
-    all-taken gs buf p q (k .0) ∙ ap (λ (x : List ℕ). record { taken = gs; place = q; buffer = x }) (k .1)
+maker-is buf w gs z =
+    let t = inTurn buf w gs in
+    let e = sym (eq-eqb (t .answer .number) 0 z) in
+    all-taken gs buf w z ∙ ap (λ (b : Bool). record { taken = gs; writer = cond b (t .answer .writer) w; buffer = cond b (t .buffer) buf }) e
 
-if-taken-more : (a : Answer) (g : Given) (xs gs : List Given) → ifTaken a g (xs ++ gs) ≡ ifTaken a g xs ++ gs
-if-taken-more (Taken p) g xs gs = refl
-if-taken-more (Refused n o p) g xs gs = refl
+if-taken-more : (b : Bool) (g : Given) (xs gs : List Given) → cond b (g ∷ (xs ++ gs)) (xs ++ gs) ≡ cond b (g ∷ xs) xs ++ gs
+if-taken-more true g xs gs = refl
+if-taken-more false g xs gs = refl
 
-all : (before gs : List Given) (buf : List ℕ) (p q : Place) → let h = calls buf p before in let w = allIn (h .buffer) (h .place) gs in
-    w .answer ≡ Taken q → calls buf p (before ++ gs) ≡ record { taken = h .taken ++ gs; place = q; buffer = w .buffer }
+all : (before gs : List Given) (buf : List ℕ) (w : Writer) → let h = calls buf w before in let o = allIn (h .buffer) (h .writer) gs in
+    o .answer .number ≡ 0 → calls buf w (before ++ gs) ≡ record { taken = h .taken ++ gs; writer = o .answer .writer; buffer = o .buffer }
 unfolding calls
-all [] gs buf p q e = maker-is buf p q gs e
-all (g ∷ before) gs buf p q e =
-    let v = callIn buf p g in
-    let k = calls (v .buffer) (placeOf (v .answer)) before in
-    ap (λ (h : History). record { taken = ifTaken (v .answer) g (h .taken); place = h .place; buffer = h .buffer }) (all before gs (v .buffer) (placeOf (v .answer)) q e)
-    ∙ ap (λ (x : List Given). record { taken = x; place = q; buffer = allIn (k .buffer) (k .place) gs .buffer }) (if-taken-more (v .answer) g (k .taken) gs)
+all [] gs buf w e = maker-is buf w gs e
+all (g ∷ before) gs buf w e =
+    let v = callIn buf w g in
+    let k = calls (v .buffer) (v .answer .writer) before in
+    let o = allIn (k .buffer) (k .writer) gs in
+    ap (λ (h : History). record { taken = ifTaken (v .answer) g (h .taken); writer = h .writer; buffer = h .buffer }) (all before gs (v .buffer) (v .answer .writer) e)
+    ∙ ap (λ (x : List Given). record { taken = x; writer = o .answer .writer; buffer = o .buffer }) (if-taken-more (isTaken (v .answer)) g (k .taken) gs)
 
 -- ---- or nothing
 
-nothing : (buf : List ℕ) (p q : Place) (w : Outcome) (a : Answer) (n : ℕ) (o : Offset) → w .answer ≡ a → orNothing buf p a w .answer ≡ Refused n o q → (orNothing buf p a w .buffer ≡ buf) × (q ≡ p)
-nothing buf p q w (Taken r) n o e t = absurd (let z : _≡_ {A = ℕ} 0 1 = cc in omega arith)
-nothing buf p q w (Refused m s r) n o e t = (refl, cc)
+-- what is answered where an answer in turn is a refusal
+nothing-done : (buf b : List ℕ) (w : Writer) (a : Answer) → (a .number ≡ 0 → ⊥)
+    → _≡_ {A = Outcome} (record { answer = handedBack w a; buffer = cond (isTaken a) b buf }) (record { answer = record { number = a .number; at = a .at; writer = w }; buffer = buf })
+nothing-done buf b w a h = let t = ne-eqb (a .number) 0 h in rw t
+
+nothing : (buf : List ℕ) (w : Writer) (gs : List Given) → let o = allIn buf w gs in (o .answer .number ≡ 0 → ⊥) → (o .buffer ≡ buf) × (o .answer .writer ≡ w)
+unfolding allIn
+nothing buf w gs h =
+    let t = inTurn buf w gs in
+    let q = nothing-done buf (t .buffer) w (t .answer) h in
+    ((λ i. q i .buffer), (λ i. q i .answer .writer))
 
 -- ---- the first refusal
 
-if-taken-length : (a : Answer) (g : Given) (xs gs : List Given) → length xs ≤ length gs → length (ifTaken a g xs) ≤ length (g ∷ gs)
-if-taken-length (Taken p) g xs gs h = omega arith
-if-taken-length (Refused n o p) g xs gs h = omega arith
+if-taken-length : (b : Bool) (g : Given) (xs gs : List Given) → length xs ≤ length gs → length (cond b (g ∷ xs) xs) ≤ length (g ∷ gs)
+if-taken-length true g xs gs h = omega arith
+if-taken-length false g xs gs h = omega arith
 
-no-more : (gs : List Given) (buf : List ℕ) (p : Place) → length (calls buf p gs .taken) ≤ length gs
+no-more : (gs : List Given) (buf : List ℕ) (w : Writer) → length (calls buf w gs .taken) ≤ length gs
 unfolding calls
-no-more [] buf p = omega arith
-no-more (g ∷ gs) buf p = let v = callIn buf p g in let k = calls (v .buffer) (placeOf (v .answer)) gs in if-taken-length (v .answer) g (k .taken) gs (no-more gs (v .buffer) (placeOf (v .answer)))
+no-more [] buf w = omega arith
+no-more (g ∷ gs) buf w = let v = callIn buf w g in let k = calls (v .buffer) (v .answer .writer) gs in if-taken-length (isTaken (v .answer)) g (k .taken) gs (no-more gs (v .buffer) (v .answer .writer))
 
-module _ (g : Given) (gs : List Given) (q : Place) (n : ℕ) (o : Offset) where
-  abbrev Stops : List Given → Type 0
-  Stops before = (buf : List ℕ) (p : Place) → let h = calls buf p before in h .taken ≡ before → callIn (h .buffer) (h .place) g .answer ≡ Refused n o q → inTurn buf p (before ++ (g ∷ gs)) .answer ≡ Refused n o q
-
-  one-on : (f : Given) (before : List Given) → Stops before → (v : Outcome) (a : Answer) → let h = calls (v .buffer) (placeOf a) before in
-      ifTaken a f (h .taken) ≡ f ∷ before → callIn (h .buffer) (h .place) g .answer ≡ Refused n o q → unlessRefused a v (inTurn (v .buffer) (placeOf a) (before ++ (g ∷ gs))) .answer ≡ Refused n o q
-  one-on f before rest v (Taken r) t e = rest (v .buffer) r (cc) e
-  one-on f before rest v (Refused m s r) t e = absurd (omega (arith, ap length t, no-more before (v .buffer) r))
-
-  at-first : (v : Outcome) (x : Outcome) (a : Answer) → v .answer ≡ a → a ≡ Refused n o q → unlessRefused a v x .answer ≡ Refused n o q
-  at-first v x (Taken r) s e = absurd (let z : _≡_ {A = ℕ} 0 1 = cc in omega arith)
-  at-first v x (Refused m t r) s e = s ∙ e
-
-  stops : (before : List Given) → Stops before
+module _ (g : Given) (gs : List Given) where
+  stops : (before : List Given) (buf : List ℕ) (w : Writer) → let h = calls buf w before in let a = callIn (h .buffer) (h .writer) g .answer in
+      h .taken ≡ before → (a .number ≡ 0 → ⊥) → inTurn buf w (before ++ (g ∷ gs)) .answer ≡ a
   unfolding calls inTurn
-  stops [] buf p t e = let v = callIn buf p g in at-first v (inTurn (v .buffer) (placeOf (v .answer)) gs) (v .answer) refl e
-  stops (f ∷ before) buf p t e = let v = callIn buf p f in one-on f before (stops before) v (v .answer) t e
+  stops [] buf w = λ t n. let z = ne-eqb (callIn buf w g .answer .number) 0 n in rw z
+  stops (f ∷ before) buf w =
+      by-outcome
+      (λ o. let h = calls (o .buffer) (o .answer .writer) before in let a = callIn (h .buffer) (h .writer) g .answer in
+      ifTaken (o .answer) f (h .taken) ≡ f ∷ before → (a .number ≡ 0 → ⊥) → cond (isTaken (o .answer)) (inTurn (o .buffer) (o .answer .writer) (before ++ (g ∷ gs))) o .answer ≡ a)
+      buf w f
+      (λ e t n. stops before (put buf (offsetOf w) (bytesOf (written f))) (writerAfter w f) (cc) n)
+      (λ m e h. rw (ne-eqb m 0 h) (λ t n. absurd (omega (arith, ap length t, no-more before buf w))))
+
+first : (buf : List ℕ) (w : Writer) (before gs : List Given) (g : Given) → let h = calls buf w before in let a = callIn (h .buffer) (h .writer) g .answer in
+    h .taken ≡ before → (a .number ≡ 0 → ⊥) → allIn buf w (before ++ (g ∷ gs)) ≡ record { answer = record { number = a .number; at = a .at; writer = w }; buffer = buf }
+unfolding allIn
+first buf w before gs g t n =
+    let h = calls buf w before in
+    let b = inTurn buf w (before ++ (g ∷ gs)) .buffer in
+    ap (λ (a : Answer). record { answer = handedBack w a; buffer = cond (isTaken a) b buf }) (stops g gs before buf w t n) ∙ nothing-done buf b w (callIn (h .buffer) (h .writer) g .answer) n
 
 -- ---- the makers' records
 
@@ -118,12 +126,11 @@ module _ (left bottom right top : ℤ) (h : Longs (left ∷ bottom ∷ right ∷
       (card .0, (card .1 .0, (calls-promises .text 0 (record { x = left; y = bottom }) (pos 2) label (omega arith) (record { x = h .0; y = h .1 .0 }) (omega arith) w, tt)))
 
 pub makers-demand : MakersDemand
-unfolding allIn
 makers-demand =
     record {
-      all = λ buf p q before gs. all before gs buf p q;
-      nothing = λ buf p q gs n o e. let w = inTurn buf p gs in nothing buf p q w (w .answer) n o refl e;
-      first = λ buf p q before gs g n o t e. let w = inTurn buf p (before ++ (g ∷ gs)) in ap (λ (a : Answer). orNothing buf p a w) (stops g gs q n o before buf p t e);
+      all = λ buf w before gs. all before gs buf w;
+      nothing = nothing;
+      first = first;
       card = card;
       frame = λ l b r t label h w. frame l b r t h label w;
     }

@@ -1,62 +1,79 @@
--- The two records that both makers append: their plan and their room. Assumes nothing.
-use mathlib.Core.Path.{_≡_, refl, sym, ap, _∙_}
-use mathlib.Core.List.{List, [], _∷_}
-use mathlib.Core.Option.{none, some}
-use Prim.Native.Nat.{ℕ, _+_, _*_, _≤_}
+-- The records that the makers append: their stores and their room. Assumes nothing.
+use mathlib.Core.Path.{_≡_, refl, sym, ap, ap₂, _∙_}
+use mathlib.Core.List.{List, [], _∷_, _++_}
+use Prim.Native.Nat.{ℕ, _+_, _*_, _/_, _≤_}
 use native.Mathlib.Omega.{arith}
 use lib.IntN.{ℤ, pos}
 use lib.ListN.{length}
 use mir.Syntax.{w32}
 use mir.Val.{toZ, ofZ, SFits}
 use mir.ValLaws.{toZ-ofZ}
-use Rattle.cgx_spec.specs.declared.Kind.the-variants.{Layer}
-use Rattle.cgx_spec.specs.declared.Place.{Place}
-use Rattle.cgx_spec.specs.Order.{next}
-use Rattle.cgx_spec.specs.Records.{bytesOf}
+use Rattle.cgx_spec.specs.Records.{size, bytesOf}
 use Rattle.cgx_put.specs.Put.{put}
+use Rattle.cgx_kinds.specs.declared.Point.{Point}
 use Rattle.cgx_writing.specs.declared.EndStyle.the-variants.{Unstated}
-use Rattle.cgx_writing.specs.declared.Answer.the-variants.{Taken}
-use Rattle.cgx_writing.specs.Given.{Given, written, givenLayer, givenWire}
-use Rattle.cgx_writing.specs.Writing.{placeBehind}
-use Rattle.cgx_writing.proofs.Sizes.{layer-size, wire-size}
-use Rattle.cgx_plans.specs.Plans.{planned}
-use Rattle.cgx_plans.proofs.Order.{call-fits, behind-is}
-use Rattle.cgx_makers.specs.Makers.{corners, outline}
+use Rattle.cgx_writing.specs.declared.Writer.{Writer}
+use Rattle.cgx_writing.specs.declared.Answer.{Answer}
+use Rattle.cgx_writing.specs.Given.{Given, written}
+use Rattle.cgx_writing.specs.Writing.{offsetOf, writerAfter}
+use Rattle.cgx_writing.proofs.Sizes.{layer-size, wire-size, label-size}
+use Rattle.cgx_writing.proofs.Standing.{after-is}
+use Rattle.cgx_plans.proofs.Order.{call-fits}
+use Rattle.cgx_makers.specs.Makers.{corners, cardLayer, cardWire, outline, caption, frameCalls}
 use Rattle.cgx_makers.specs.Planned.{allPlanned, allStored}
-use Rattle.cgx_makers.proofs.Turns.{plan-goes, plan-good}
+use Rattle.cgx_makers.proofs.Turns.{plan-good}
 
-abbrev pub card-layer : Given
-card-layer = givenLayer (record { 0 = pos 1 }) (record { 0 = pos 0 }) none
+offset-after : (w : Writer) (g : Given) (n : ℕ) → n ≡ size (written g) → offsetOf (writerAfter w g) ≡ offsetOf w + n
+offset-after w g n e = ap offsetOf (after-is w g) ∙ ap (λ (k : ℕ). offsetOf w + k) (sym e)
 
-abbrev pub card-wire : List ℤ → Given
-card-wire zs = givenWire Unstated (pos 2) zs
+layer-8 : 8 ≡ size (written cardLayer)
+layer-8 = layer-size (record { 0 = pos 1 }) (record { 0 = pos 0 })
 
--- where the LAYER's plan is good, all is planned from the place behind it
-pub layer-goes : (room : ℕ) (old p q : Place) (gs : List Given) (n : ℕ) → n ≡ planned room p card-layer → n ≡ 0 → q ≡ record { at = p .at + 8; context = next (p .context) (p .at) (some Layer) }
-    → allPlanned room old q gs ≡ allPlanned room old p (card-layer ∷ gs)
-unfolding givenLayer
-layer-goes room old p q gs n e z b = plan-goes room old p card-layer gs n 8 q e z (layer-size (record { 0 = pos 1 }) (record { 0 = pos 0 })) b
+module _ (zs : List ℤ) (w : Writer) where
+  abbrev second : Writer
+  second = writerAfter w cardLayer
 
-wire-at : (p : Place) → placeBehind p card-layer .at ≡ p .at + 8
-wire-at p = ap (λ (q : Place). q .at) (behind-is p card-layer) ∙ ap (λ (k : ℕ). p .at + k) (sym (layer-size (record { 0 = pos 1 }) (record { 0 = pos 0 })))
+  abbrev third : Writer
+  third = writerAfter second (cardWire zs)
 
-module _ (zs : List ℤ) where
+  wire-at : offsetOf second ≡ offsetOf w + 8
+  wire-at = offset-after w cardLayer 8 layer-8
+
+  pub caption-at : offsetOf third ≡ offsetOf w + (16 + 4 * length zs)
+  caption-at = let a = wire-at in let b = offset-after second (cardWire zs) (8 + 4 * length zs) (wire-size Unstated (pos 2) zs) in omega arith
+
   -- the stores, as the code has them
-  pub outline-stored : (buf : List ℕ) (p : Place) → put (put buf (p .at) (bytesOf (written card-layer))) (p .at + 8) (bytesOf (written (card-wire zs))) ≡ allStored buf p (outline zs)
+  pub outline-stored : (buf : List ℕ) → put (put buf (offsetOf w) (bytesOf (written cardLayer))) (offsetOf w + 8) (bytesOf (written (cardWire zs))) ≡ allStored buf w (outline zs)
   unfolding allStored
-  outline-stored buf p = ap (λ (k : ℕ). put (put buf (p .at) (bytesOf (written card-layer))) k (bytesOf (written (card-wire zs)))) (sym (wire-at p))
+  outline-stored buf = ap (λ (k : ℕ). put (put buf (offsetOf w) (bytesOf (written cardLayer))) k (bytesOf (written (cardWire zs)))) (sym wire-at)
 
-  -- a good plan leaves room
-  pub outline-fits : (room : ℕ) (old p q : Place) → allPlanned room old p (outline zs) ≡ Taken q → (p .at + (16 + 4 * length zs) ≤ room) × (8 + 4 * length zs ≤ 65534)
-  outline-fits room old p q e =
-      let b = placeBehind p card-layer in
-      let g = plan-good room old p card-layer (card-wire zs ∷ []) q e in
-      let h = call-fits room b (card-wire zs) 0 (8 + 4 * length zs) (plan-good room old b (card-wire zs) [] q (g .1) .0) refl (wire-size Unstated (pos 2) zs) in
-      (omega (arith, h .room, wire-at p), h .small)
+  pub frame-stored : (buf : List ℕ) (p : Point) (t : List ℕ) (to : ℕ) → to ≡ offsetOf w + (16 + 4 * length zs)
+      → put (put (put buf (offsetOf w) (bytesOf (written cardLayer))) (offsetOf w + 8) (bytesOf (written (cardWire zs)))) to (bytesOf (written (caption p t))) ≡ allStored buf w (outline zs ++ (caption p t ∷ []))
+  unfolding allStored
+  frame-stored buf p t to e =
+      ap₂ (λ (k j : ℕ). put (put (put buf (offsetOf w) (bytesOf (written cardLayer))) k (bytesOf (written (cardWire zs)))) j (bytesOf (written (caption p t)))) (sym wire-at) (e ∙ sym caption-at)
 
--- the corners of sides as a call is given them
+  -- a plan that is taken leaves room
+  pub outline-fits : (room : ℕ) (gs : List Given) → allPlanned room w (cardLayer ∷ cardWire zs ∷ gs) .number ≡ 0 → (offsetOf w + (16 + 4 * length zs) ≤ room) × (8 + 4 * length zs ≤ 65534)
+  outline-fits room gs z =
+      let g = plan-good room second (cardWire zs) gs (plan-good room w cardLayer (cardWire zs ∷ gs) z .1) in
+      let h = call-fits room second (cardWire zs) _ (8 + 4 * length zs) (sym (g .0)) refl (wire-size Unstated (pos 2) zs) in
+      (omega (arith, h .room, wire-at), h .small)
+
+  pub frame-fits : (room : ℕ) (p : Point) (t : List ℕ) → allPlanned room w (outline zs ++ (caption p t ∷ [])) .number ≡ 0 → (offsetOf w + (16 + 4 * length zs) + (18 + length t / 2 * 2) ≤ room) × (18 + length t / 2 * 2 ≤ 65534)
+  frame-fits room p t z =
+      let k = plan-good room second (cardWire zs) (caption p t ∷ []) (plan-good room w cardLayer (cardWire zs ∷ caption p t ∷ []) z .1) .1 in
+      let g = plan-good room third (caption p t) [] k in
+      let h = call-fits room third (caption p t) _ (18 + length t / 2 * 2) (sym (g .0)) refl (label-size 0 p (pos 2) t) in
+      (omega (arith, h .room, caption-at), h .small)
+
+-- the sides as a call is given them
 abbrev held : ℤ → ℤ
 held z = toZ w32 (ofZ w32 z)
 
-pub corners-held : (l b r t : ℤ) → SFits w32 l → SFits w32 b → SFits w32 r → SFits w32 t → corners (held l) (held b) (held r) (held t) ≡ corners l b r t
-corners-held l b r t hl hb hr ht = rw (toZ-ofZ w32 l hl, toZ-ofZ w32 b hb, toZ-ofZ w32 r hr, toZ-ofZ w32 t ht)
+module _ (l b r t : ℤ) (hl : SFits w32 l) (hb : SFits w32 b) (hr : SFits w32 r) (ht : SFits w32 t) where
+  pub corners-held : corners (held l) (held b) (held r) (held t) ≡ corners l b r t
+  corners-held = rw (toZ-ofZ w32 l hl, toZ-ofZ w32 b hb, toZ-ofZ w32 r hr, toZ-ofZ w32 t ht)
+
+  pub point-held : _≡_ {A = Point} (record { x = held l; y = held b }) (record { x = l; y = b })
+  point-held = rw (toZ-ofZ w32 l hl, toZ-ofZ w32 b hb)

@@ -1,116 +1,91 @@
 -- Several records planned from the room alone, and then stored, are calls in turn, all or none: a store changes no length. Assumes nothing.
 use mathlib.Core.Path.{_≡_, refl, sym, ap, _∙_}
+use mathlib.Core.Bool.{Bool, true, false, cond}
 use mathlib.Core.List.{List, [], _∷_, _++_}
-use mathlib.Core.Option.{Option, none, some}
-use Prim.Native.Nat.{ℕ, _+_}
-use native.Mathlib.Omega.{arith}
+use Prim.Native.Nat.{ℕ}
+use borrow.Author.Tests.{eq-eqb, ne-eqb}
 use lib.ListN.{length}
-use Rattle.cgx_spec.specs.declared.Offset.{Offset}
-use Rattle.cgx_spec.specs.declared.Place.{Place}
-use Rattle.cgx_spec.specs.Order.{next}
-use Rattle.cgx_spec.specs.Records.{size, bytesOf, broken}
+use Rattle.cgx_spec.specs.Records.{bytesOf}
 use Rattle.cgx_put.specs.Put.{put}
 use Rattle.cgx_put.proofs.Puts.{put-length}
+use Rattle.cgx_writing.specs.declared.Writer.{Writer}
 use Rattle.cgx_writing.specs.declared.Answer.{Answer}
-use Rattle.cgx_writing.specs.declared.Answer.the-variants.{Taken, Refused}
 use Rattle.cgx_writing.specs.Given.{Given, written}
-use Rattle.cgx_writing.specs.Writing.{Outcome, checks, named, placeOf, placeBehind, settled, callIn}
-use Rattle.cgx_plans.specs.Plans.{planned}
-use Rattle.cgx_plans.proofs.Order.{planned-zero, planned-some, behind-is}
-use Rattle.cgx_makers.specs.Makers.{unlessRefused, inTurn, orNothing, allIn}
-use Rattle.cgx_makers.specs.Planned.{unlessBroken, allPlanned, allStored}
+use Rattle.cgx_writing.specs.Writing.{offsetOf, writerAfter, planned, Outcome, isTaken, callIn}
+use Rattle.cgx_writing.proofs.Calls.{taken, by-answer}
+use Rattle.cgx_makers.specs.Makers.{inTurn, handedBack, allIn}
+use Rattle.cgx_makers.specs.Planned.{allPlanned, allStored}
 
 -- ---- the plan and the stores are the calls
 
--- what comes of a plan's answer
-abbrev pub ending : List ℕ → List ℕ → Answer → Outcome
-ending old new (Taken q) = record { answer = Taken q; buffer = new }
-ending old new (Refused n o q) = record { answer = Refused n o q; buffer = old }
+abbrev Turns : List Given → Type 0
+Turns gs = (buf : List ℕ) (w : Writer) → let o = inTurn buf w gs in (o .answer ≡ allPlanned (length buf) w gs) × (o .answer .number ≡ 0 → o .buffer ≡ allStored buf w gs)
 
-module _ (old : List ℕ) (o : Place) where
-  abbrev Turns : List Given → Type 0
-  Turns gs = (buf : List ℕ) (p : Place) → let w = inTurn buf p gs in orNothing old o (w .answer) w ≡ ending old (allStored buf p gs) (allPlanned (length buf) o p gs)
+turns : (gs : List Given) → Turns gs
+unfolding inTurn allPlanned allStored callIn
+turns [] buf w = (refl, λ z. refl)
+turns (g ∷ gs) buf w =
+    let b = put buf (offsetOf w) (bytesOf (written g)) in
+    let v = writerAfter w g in
+    let r = turns gs b v in
+    by-answer
+    (λ a. let o : Outcome = record { answer = a; buffer = cond (isTaken a) b buf } in let t = cond (isTaken a) (inTurn (o .buffer) (a .writer) gs) o in
+    (t .answer ≡ cond (isTaken a) (allPlanned (length buf) (a .writer) gs) a) × (t .answer .number ≡ 0 → t .buffer ≡ allStored b v gs))
+    (length buf) w g
+    (λ e. (r .0 ∙ ap (λ (n : ℕ). allPlanned n v gs) (put-length buf (offsetOf w) (bytesOf (written g))), r .1))
+    (λ m e h. rw (ne-eqb m 0 h) (refl, λ z. absurd (h z)))
 
-  one-turn : (g : Given) (gs : List Given) → Turns gs → (buf : List ℕ) (p : Place) (r : Option ℕ)
-      → let v = settled buf p g r in let w = unlessRefused (v .answer) v (inTurn (v .buffer) (placeOf (v .answer)) gs) in
-      orNothing old o (w .answer) w ≡ ending old (allStored (put buf (p .at) (bytesOf (written g))) (placeBehind p g) gs) (unlessBroken r o (p .at) (allPlanned (length buf) o (placeBehind p g) gs))
-  unfolding settled
-  one-turn g gs rest buf p (some n) = refl
-  one-turn g gs rest buf p none =
-      let b = put buf (p .at) (bytesOf (written g)) in
-      let q = placeBehind p g in
-      rest b q ∙ ap (λ (n : ℕ). ending old (allStored b q gs) (allPlanned n o q gs)) (put-length buf (p .at) (bytesOf (written g)))
+module _ (buf : List ℕ) (w : Writer) (gs : List Given) (a : Answer) (e : a ≡ handedBack w (allPlanned (length buf) w gs)) where
+  abbrev last : Outcome
+  last = inTurn buf w gs
 
-  turns : (gs : List Given) → Turns gs
-  unfolding inTurn allPlanned allStored callIn
-  turns [] buf p = refl
-  turns (g ∷ gs) buf p = one-turn g gs (turns gs) buf p (broken (checks (length buf) p g))
+  said : a ≡ handedBack w (last .answer)
+  said = e ∙ ap (handedBack w) (sym (turns gs buf w .0))
 
-all-is : (buf : List ℕ) (p : Place) (gs : List Given) → allIn buf p gs ≡ ending buf (allStored buf p gs) (allPlanned (length buf) p p gs)
-unfolding allIn
-all-is buf p gs = turns buf p gs buf p
+  number : a .number ≡ last .answer .number
+  number = ap (λ (x : Answer). x .number) said
 
-module _ (buf : List ℕ) (p q : Place) (gs : List Given) (a : Answer) (e : a ≡ allPlanned (length buf) p p gs) where
-  pub all-taken : (out : List ℕ) → a ≡ Taken q → out ≡ allStored buf p gs → record { answer = Taken q; buffer = out } ≡ allIn buf p gs
-  all-taken out t s = ap (λ (x : List ℕ). record { answer = Taken q; buffer = x }) s ∙ sym (all-is buf p gs ∙ ap (ending buf (allStored buf p gs)) (sym e ∙ t))
+  pub all-refused : (a .number ≡ 0 → ⊥) → record { answer = a; buffer = buf } ≡ allIn buf w gs
+  unfolding allIn
+  all-refused h =
+      let q = sym (ap (λ (b : Bool). cond b (last .buffer) buf) (ne-eqb (last .answer .number) 0 (λ z. h (number ∙ z)))) in
+      λ i. record { answer = said i; buffer = q i }
 
-  pub all-refused : (n : ℕ) (o : Offset) → a ≡ Refused n o q → record { answer = a; buffer = buf } ≡ allIn buf p gs
-  all-refused n o t = ap (λ (x : Answer). record { answer = x; buffer = buf }) t ∙ sym (all-is buf p gs ∙ ap (ending buf (allStored buf p gs)) (sym e ∙ t))
+  pub all-taken : (out : List ℕ) → a .number ≡ 0 → out ≡ allStored buf w gs → record { answer = a; buffer = out } ≡ allIn buf w gs
+  unfolding allIn
+  all-taken out h s =
+      let z = sym number ∙ h in
+      let q = s ∙ sym (turns gs buf w .1 z) ∙ sym (ap (λ (b : Bool). cond b (last .buffer) buf) (eq-eqb (last .answer .number) 0 z)) in
+      λ i. record { answer = said i; buffer = q i }
 
--- ---- one record's plan, and those behind it
+-- ---- plans in turn
 
-module _ (room : ℕ) (old p : Place) (g : Given) (gs : List Given) where
-  pub plan-stops : (n : ℕ) (a : Answer) → n ≡ planned room p g → (n ≡ 0 → ⊥) → a ≡ Refused n (named n (p .at)) old → a ≡ allPlanned room old p (g ∷ gs)
-  unfolding allPlanned
-  plan-stops n a e h q = q ∙ ap (λ (o : Option ℕ). unlessBroken o old (p .at) (allPlanned room old (placeBehind p g) gs)) (sym (planned-some room p g n e h))
-
-  plan-behind : 0 ≡ planned room p g → allPlanned room old (placeBehind p g) gs ≡ allPlanned room old p (g ∷ gs)
-  unfolding allPlanned
-  plan-behind e = ap (λ (o : Option ℕ). unlessBroken o old (p .at) (allPlanned room old (placeBehind p g) gs)) (sym (planned-zero room p g e))
-
-  -- the same, with the place as the code has it
-  pub plan-goes : (n s : ℕ) (q : Place) → n ≡ planned room p g → n ≡ 0 → s ≡ size (written g) → q ≡ record { at = p .at + s; context = next (p .context) (p .at) (some (g .kind)) }
-      → allPlanned room old q gs ≡ allPlanned room old p (g ∷ gs)
-  plan-goes n s q e z h b =
-      ap (λ (x : Place). allPlanned room old x gs) (b ∙ ap (λ (k : ℕ). record { at = p .at + k; context = next (p .context) (p .at) (some (g .kind)) }) h ∙ sym (behind-is p g))
-      ∙ plan-behind (sym z ∙ e)
-
-  -- a plan that is good is good of its first record, and behind it
-  pub plan-good : (q : Place) → allPlanned room old p (g ∷ gs) ≡ Taken q → (0 ≡ planned room p g) × (allPlanned room old (placeBehind p g) gs ≡ Taken q)
-  unfolding allPlanned planned
-  plan-good q = one (broken (checks room p g)) refl
-    where
-      one : (o : Option ℕ) → broken (checks room p g) ≡ o → unlessBroken o old (p .at) (allPlanned room old (placeBehind p g) gs) ≡ Taken q → (0 ≡ planned room p g) × (allPlanned room old (placeBehind p g) gs ≡ Taken q)
-      one none w e = (rw w, e)
-      one (some n) w e = absurd (let z : _≡_ {A = ℕ} 0 1 = cc in omega arith)
-
--- ---- more records behind those of a good plan
-
-module _ (room : ℕ) (old q : Place) (hs : List Given) where
-  pub plan-more : (gs : List Given) (p : Place) → allPlanned room old p gs ≡ Taken q → allPlanned room old p (gs ++ hs) ≡ allPlanned room old q hs
-  unfolding allPlanned
-  plan-more [] p e = let s : p ≡ q = cc in ap (λ (x : Place). allPlanned room old x hs) s
-  plan-more (g ∷ gs) p e =
-      let k = plan-good room old p g gs q e in
-      sym (plan-behind room old p g (gs ++ hs) (k .0)) ∙ plan-more gs (placeBehind p g) (k .1)
-
-  pub stored-more : (gs : List Given) (p : Place) (buf : List ℕ) → allPlanned room old p gs ≡ Taken q → allStored buf p (gs ++ hs) ≡ allStored (allStored buf p gs) q hs
-  unfolding allPlanned allStored
-  stored-more [] p buf e = let s : p ≡ q = cc in ap (λ (x : Place). allStored buf x hs) s
-  stored-more (g ∷ gs) p buf e = stored-more gs (placeBehind p g) (put buf (p .at) (bytesOf (written g))) (plan-good room old p g gs q e .1)
-
--- none is planned behind a refusal
-pub plan-refused : (room : ℕ) (old q : Place) (n : ℕ) (o : Offset) (hs gs : List Given) (p : Place) → allPlanned room old p gs ≡ Refused n o q → allPlanned room old p (gs ++ hs) ≡ Refused n o q
+pub plan-last : (room : ℕ) (w : Writer) (g : Given) → planned room w g ≡ allPlanned room w (g ∷ [])
 unfolding allPlanned
-plan-refused room old q n o hs [] p = λ e. absurd (let z : _≡_ {A = ℕ} 0 1 = cc in omega arith)
-plan-refused room old q n o hs (g ∷ gs) p = one (broken (checks room p g)) (plan-refused room old q n o hs gs (placeBehind p g))
-  where
-    one : (b : Option ℕ) → (allPlanned room old (placeBehind p g) gs ≡ Refused n o q → allPlanned room old (placeBehind p g) (gs ++ hs) ≡ Refused n o q)
-        → unlessBroken b old (p .at) (allPlanned room old (placeBehind p g) gs) ≡ Refused n o q → unlessBroken b old (p .at) (allPlanned room old (placeBehind p g) (gs ++ hs)) ≡ Refused n o q
-    one none rest e = rest e
-    one (some m) rest e = e
+plan-last room w g = by-answer (λ a. a ≡ cond (isTaken a) (record { number = 0; at = 0; writer = a .writer }) a) room w g (λ e. refl) (λ m e h. rw (ne-eqb m 0 h) refl)
 
-pub stored-length : (gs : List Given) (p : Place) (buf : List ℕ) → length (allStored buf p gs) ≡ length buf
-unfolding allStored
-stored-length [] p buf = refl
-stored-length (g ∷ gs) p buf = stored-length gs (placeBehind p g) (put buf (p .at) (bytesOf (written g))) ∙ put-length buf (p .at) (bytesOf (written g))
+-- more records after those of a plan
+plan-more : (room : ℕ) (hs gs : List Given) (w : Writer) → let a = allPlanned room w gs in allPlanned room w (gs ++ hs) ≡ cond (isTaken a) (allPlanned room (a .writer) hs) a
+unfolding allPlanned
+plan-more room hs [] w = refl
+plan-more room hs (g ∷ gs) w =
+    by-answer
+    (λ a. let t = cond (isTaken a) (allPlanned room (a .writer) gs) a in cond (isTaken a) (allPlanned room (a .writer) (gs ++ hs)) a ≡ cond (isTaken t) (allPlanned room (t .writer) hs) t)
+    room w g (λ e. plan-more room hs gs (writerAfter w g)) (λ m e h. rw (ne-eqb m 0 h) (rw (ne-eqb m 0 h) refl))
+
+module _ (room : ℕ) (hs gs : List Given) (w : Writer) (a : Answer) (e : a ≡ allPlanned room w gs) where
+  onward : (b : Bool) → isTaken a ≡ b → cond b (allPlanned room (a .writer) hs) a ≡ allPlanned room w (gs ++ hs)
+  onward b t = ap (λ (c : Bool). cond c (allPlanned room (a .writer) hs) a) (sym t) ∙ ap (λ (x : Answer). cond (isTaken x) (allPlanned room (x .writer) hs) x) e ∙ sym (plan-more room hs gs w)
+
+  pub more-stops : (a .number ≡ 0 → ⊥) → a ≡ allPlanned room w (gs ++ hs)
+  more-stops h = onward false (ne-eqb (a .number) 0 h)
+
+  pub more-goes : (r : Answer) → a .number ≡ 0 → r ≡ allPlanned room (a .writer) hs → r ≡ allPlanned room w (gs ++ hs)
+  more-goes r z q = q ∙ onward true (eq-eqb (a .number) 0 z)
+
+-- a plan that is taken is taken of its first record, and after it
+pub plan-good : (room : ℕ) (w : Writer) (g : Given) (gs : List Given) → allPlanned room w (g ∷ gs) .number ≡ 0 → (planned room w g ≡ taken w g) × (allPlanned room (writerAfter w g) gs .number ≡ 0)
+unfolding allPlanned
+plan-good room w g gs =
+    by-answer (λ a. cond (isTaken a) (allPlanned room (a .writer) gs) a .number ≡ 0 → (a ≡ taken w g) × (allPlanned room (writerAfter w g) gs .number ≡ 0)) room w g
+    (λ e z. (refl, z)) (λ m e h. rw (ne-eqb m 0 h) (λ z. absurd (h z)))

@@ -1,24 +1,19 @@
--- The plan of several records as the code computes it, from the room alone, and the stores that follow where it is good. Definitions only.
+-- The plan of several records as the code computes it, from the room alone, and the stores that follow where it is taken. Definitions only.
+use mathlib.Core.Bool.{cond}
 use mathlib.Core.List.{List, [], _∷_}
-use mathlib.Core.Option.{Option, none, some}
 use Prim.Native.Nat.{ℕ}
-use Rattle.cgx_spec.specs.declared.Place.{Place}
-use Rattle.cgx_spec.specs.Records.{bytesOf, broken}
+use Rattle.cgx_spec.specs.Records.{bytesOf}
 use Rattle.cgx_put.specs.Put.{put}
+use Rattle.cgx_writing.specs.declared.Writer.{Writer}
 use Rattle.cgx_writing.specs.declared.Answer.{Answer}
-use Rattle.cgx_writing.specs.declared.Answer.the-variants.{Taken, Refused}
 use Rattle.cgx_writing.specs.Given.{Given, written}
-use Rattle.cgx_writing.specs.Writing.{checks, named, placeBehind}
+use Rattle.cgx_writing.specs.Writing.{offsetOf, writerAfter, planned, isTaken}
 
--- A refusal hands back `old`; the record would begin at `at`.
-abbrev pub unlessBroken : Option ℕ → Place → ℕ → Answer → Answer
-unlessBroken none old at next = next
-unlessBroken (some n) old at next = Refused n (named n at) old
+-- Each is planned from the writer after the one before it, up to the first refusal.
+unfoldable pub allPlanned : ℕ → Writer → List Given → Answer
+allPlanned room w [] = record { number = 0; at = 0; writer = w }
+allPlanned room w (g ∷ gs) = let a = planned room w g in cond (isTaken a) (allPlanned room (a .writer) gs) a
 
-unfoldable pub allPlanned : ℕ → Place → Place → List Given → Answer
-allPlanned room old p [] = Taken p
-allPlanned room old p (g ∷ gs) = unlessBroken (broken (checks room p g)) old (p .at) (allPlanned room old (placeBehind p g) gs)
-
-unfoldable pub allStored : List ℕ → Place → List Given → List ℕ
-allStored buf p [] = buf
-allStored buf p (g ∷ gs) = allStored (put buf (p .at) (bytesOf (written g))) (placeBehind p g) gs
+unfoldable pub allStored : List ℕ → Writer → List Given → List ℕ
+allStored buf w [] = buf
+allStored buf w (g ∷ gs) = allStored (put buf (offsetOf w) (bytesOf (written g))) (writerAfter w g) gs

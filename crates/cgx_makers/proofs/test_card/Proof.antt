@@ -1,13 +1,13 @@
--- The two records' plan is that of the card; where it is good, so are the stores.
+-- The plan and the stores are those of the two records in turn.
 use mathlib.Core.Path.{sym, ap, _∙_}
-use mathlib.Core.List.{List}
+use mathlib.Core.List.{List, []}
 use native.Mathlib.Omega.{arith}
 use lib.IntN.{ℤ}
 use lib.ListN.{length}
-use Rattle.cgx_makers.specs.Makers.{outline, cardCalls}
-use Rattle.cgx_makers.specs.Planned.{allPlanned, allStored}
-use Rattle.cgx_makers.proofs.Turns.{all-taken, all-refused}
-use Rattle.cgx_makers.proofs.Outline.{corners-held, outline-fits}
+use Rattle.cgx_writing.specs.declared.Answer.{Answer}
+use Rattle.cgx_makers.specs.Makers.{outline, handedBack, allIn}
+use Rattle.cgx_makers.proofs.Turns.{all-refused, all-taken}
+use Rattle.cgx_makers.proofs.Outline.{outline-stored, outline-fits, corners-held}
 use Rattle.cgx_makers.proofs.Demand.{card-typed}
 use borrow.Author.Needs.{needs}
 use Rattle.cgx_makers.proofs.test_card.Statement.{statement}
@@ -22,62 +22,45 @@ slice-aggregate-plan-outline c = search needs
 plan-outline-requires : tie.Need-plan-outline-requires
 plan-outline-requires c κs = search needs
 
-enum-known-planned : tie.Need-enum-known-planned
-enum-known-planned c = search needs
-
-enum-told : tie.Need-enum-told
-enum-told c = search needs
+handed-back-requires : tie.Need-handed-back-requires
+handed-back-requires c κs = search needs
 
 returns : tie.Need-returns
 returns c =
-    let f = c .before .before in
-    let s = f .before .before in
-    let v = s .before .before in
-    let a = v .args in
-    let e = f .plan-outline .ensures ∙ ap (λ (zs : List ℤ). allPlanned (length (a .buf .now)) (a .place) (a .place) (outline zs)) (s .corners-of .ensures ∙ corners-held (a .left) (a .bottom) (a .right) (a .top) (v .fits .left) (v .fits .bottom) (v .fits .right) (v .fits .top)) in
-    let t = c .enum-told .given in
-    (all-refused (a .buf .now) (a .place) (t .0 .1 .1 .0) (cardCalls (a .left) (a .bottom) (a .right) (a .top)) (f .plan-outline .result) e (t .0 .0) (t .0 .1 .0) (t .1), card-typed (a .left) (a .bottom) (a .right) (a .top) (v .fits .left) (v .fits .bottom) (v .fits .right) (v .fits .top))
+    let s = c .before .before .before .before .before .before .before in
+    let a = s .args in
+    let zs = c .before .before .before .before .before .corners-of .result in
+    let h = c .before .before .handed-back in
+    let e = h .ensures ∙ ap (handedBack (a .writer)) (c .before .before .before .plan-outline .ensures) in
+    let q = ap (λ (x : List ℤ). allIn (a .buf .now) (a .writer) (outline x)) (c .before .before .before .before .before .corners-of .ensures ∙ corners-held (a .left) (a .bottom) (a .right) (a .top) (s .fits .left) (s .fits .bottom) (s .fits .right) (s .fits .top)) in
+    (all-refused (a .buf .now) (a .writer) (outline zs) (h .result) e (c .if1 .taken) ∙ q, card-typed (a .left) (a .bottom) (a .right) (a .top) (s .fits .left) (s .fits .bottom) (s .fits .right) (s .fits .top))
 
 slice-aggregate-store-outline : tie.Need-slice-aggregate-store-outline
 slice-aggregate-store-outline c = search needs
 
 store-outline-requires : tie.Need-store-outline-requires
 store-outline-requires c κs =
-    let k = c .before .before .before in
-    let f = k .before .before in
-    let a = f .before .before .before .before .args in
-    let h = outline-fits _ (length (a .buf .now)) (a .place) (a .place) (k .planned .given .0 .0) (sym (f .plan-outline .ensures) ∙ k .planned .given .1) in
-    omega (arith, h .0, h .1)
+    let s = c .before .before .before .before .before .before .before .before .before .before in
+    let a = s .args in
+    let zs = c .before .before .before .before .before .before .before .before .corners-of .result in
+    let h = c .before .before .before .before .before .handed-back in
+    let e = h .ensures ∙ ap (handedBack (a .writer)) (c .before .before .before .before .before .before .plan-outline .ensures) in
+    let f = outline-fits zs (a .writer) (length (a .buf .now)) [] (sym (ap (λ (x : Answer). x .number) e) ∙ c .before .before .before .if1 .left) in
+    omega (arith, f .0, f .1)
 
 same-length : tie.Need-same-length
 same-length c = search needs
 
 returns-2 : tie.Need-returns-2
 returns-2 c =
-    let w = c .before .before in
-    let k = w .before .before .before .before in
-    let f = k .before .before in
-    let s = f .before .before in
-    let v = s .before .before in
-    let a = v .args in
-    let h = s .corners-of .ensures ∙ corners-held (a .left) (a .bottom) (a .right) (a .top) (v .fits .left) (v .fits .bottom) (v .fits .right) (v .fits .top) in
-    let e = f .plan-outline .ensures ∙ ap (λ (zs : List ℤ). allPlanned (length (a .buf .now)) (a .place) (a .place) (outline zs)) h in (
-      all-taken (a .buf .now) (a .place) (k .planned .given .0 .0) (cardCalls (a .left) (a .bottom) (a .right) (a .top)) (f .plan-outline .result) e (w .store-outline .last .0) (k .planned .given .1)
-          (w .store-outline .ensures ∙ ap (λ (zs : List ℤ). allStored (a .buf .now) (a .place) (outline zs)) h),
-      card-typed (a .left) (a .bottom) (a .right) (a .top) (v .fits .left) (v .fits .bottom) (v .fits .right) (v .fits .top),
-    )
+    let s = c .before .before .before .before .before .before .before .before .before .before .before .before .before in
+    let a = s .args in
+    let zs = c .before .before .before .before .before .before .before .before .before .before .before .corners-of .result in
+    let h = c .before .before .before .before .before .before .before .before .handed-back in
+    let e = h .ensures ∙ ap (handedBack (a .writer)) (c .before .before .before .before .before .before .before .before .before .plan-outline .ensures) in
+    let q = ap (λ (x : List ℤ). allIn (a .buf .now) (a .writer) (outline x)) (c .before .before .before .before .before .before .before .before .before .before .before .corners-of .ensures ∙ corners-held (a .left) (a .bottom) (a .right) (a .top) (s .fits .left) (s .fits .bottom) (s .fits .right) (s .fits .top)) in
+    let o = c .before .before .store-outline in
+    (all-taken (a .buf .now) (a .writer) (outline zs) (h .result) e (o .last .0) (c .before .before .before .before .before .before .if1 .left) (o .ensures .1 ∙ outline-stored zs (a .writer) (a .buf .now)) ∙ q, card-typed (a .left) (a .bottom) (a .right) (a .top) (s .fits .left) (s .fits .bottom) (s .fits .right) (s .fits .top))
 
 pub test-card-spec : {M : Type 1} → statement M
-test-card-spec =
-    tie.close
-    (tie.spec
-    corners-of-requires
-    slice-aggregate-plan-outline
-    plan-outline-requires
-    enum-known-planned
-    enum-told
-    returns
-    slice-aggregate-store-outline
-    store-outline-requires
-    same-length
-    returns-2)
+test-card-spec = tie.close (tie.spec corners-of-requires slice-aggregate-plan-outline plan-outline-requires handed-back-requires returns slice-aggregate-store-outline store-outline-requires same-length returns-2)
