@@ -1,8 +1,10 @@
--- What the answers that pass to C stand for: one definition for each, with the library's own cases. Definitions only.
+-- What the answers that pass to C mean: one definition for each, with the library's own cases. Definitions only.
+use mathlib.Core.Path.{_≡_}
 use mathlib.Core.Bool.{Bool, true, cond}
 use Prim.Native.Nat.{ℕ, zero, suc}
 use Rattle.cgx_spec.specs.declared.Verdict.{Verdict}
 use Rattle.cgx_spec.specs.declared.Verdict.the-variants.{Accepted, Refused as NotAccepted}
+use Rattle.cgx_cursor.specs.Cursors.{placeIn, cursorOf}
 use Rattle.cgx_walk.specs.declared.Started.{Started as WalkStarted}
 use Rattle.cgx_walk.specs.declared.Started.the-variants as walk
 use Rattle.cgx_lists.specs.declared.BoxAt.{BoxAt}
@@ -35,8 +37,13 @@ use Rattle.cgx_answers.specs.declared.PlainAnswer.{PlainAnswer}
 abbrev pub verdictFrom : PlainVerdict → Verdict
 verdictFrom p = cond (p .accepted) Accepted (NotAccepted (p .number) (p .at))
 
+-- A start that is ready is the cursor of a place.
+abbrev pub Begun : WalkStarted → Type 0
+Begun (walk.Ready c) = c ≡ cursorOf (placeIn c)
+Begun (walk.Refused n o) = Unit {0}
+
 abbrev pub startedFrom : PlainStart → WalkStarted
-startedFrom p = cond (p .ready) (walk.Ready (placeFrom (p .place))) (walk.Refused (p .number) (p .at .at))
+startedFrom p = cond (p .ready) (walk.Ready (cursorOf (placeFrom (p .place)))) (walk.Refused (p .number) (p .at .at))
 
 -- A refused start names its offset.
 abbrev pub namesPlace : PlainStart → Bool

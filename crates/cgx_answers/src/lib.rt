@@ -1,7 +1,11 @@
 // Answers of the reader and the writer as C has them: structs of plain numbers with a status. specs/Answers.antt says what each of them stands for.
+use cgx_cursor::Cursor;
+use cgx_cursor::State;
+use cgx_cursor::next_state;
 use cgx_extent::CellExtent;
 use cgx_extent::Rectangle;
 use cgx_extent::Sides;
+use cgx_fill::fill_fields;
 use cgx_kinds::Point;
 use cgx_layers::Shown;
 use cgx_lists::BoxAt;
@@ -9,24 +13,32 @@ use cgx_lists::PointAt;
 use cgx_normal::Made;
 use cgx_plain::places::PlainOffset;
 use cgx_plain::places::PlainPlace;
+use cgx_plain::places::PlainRun;
 use cgx_plain::places::no_place;
 use cgx_plain::places::plain_offset;
 use cgx_plain::places::plain_place;
+use cgx_spec::Kind;
 use cgx_spec::Offset;
 use cgx_spec::Verdict;
 use cgx_view_words::ViewWords;
-use cgx_view_words::put_view;
-use cgx_walk::Outcome;
+use cgx_view_words::put_head;
+use cgx_walk::Sought;
 use cgx_walk::Started as WalkStarted;
+use cgx_walk::seek;
+use cgx_walk::taken;
 use cgx_words::PlaceWords;
-use cgx_words::put_place;
+use cgx_words::cursor_of;
+use cgx_words::put_cursor;
 use cgx_writing::Answer;
 use cgx_writing::Started;
 ghost use mathlib.Core.Path.{_≡_};
 ghost use mathlib.Core.Bool.{true};
 ghost use Prim.Native.Nat.{_≤_};
-ghost use Rattle.cgx_answers.specs.Answers.{verdictFrom, startedFrom, namesPlace, boxFrom, pointFrom, madeFrom, shownFrom, extentFrom, begunFrom, answerFrom};
-ghost use Rattle.cgx_answers.specs.Lent.{saidBy, saidOf, placeLeft, viewLeft};
+ghost use Rattle.cgx_cursor.specs.Cursors.{offsetIn, placeIn};
+ghost use Rattle.cgx_plain.specs.Plain.{offsetFrom, placeFrom};
+ghost use Rattle.cgx_walk.specs.Walk.{Met};
+ghost use Rattle.cgx_answers.specs.Answers.{verdictFrom, Begun, startedFrom, namesPlace, boxFrom, pointFrom, madeFrom, shownFrom, extentFrom, begunFrom, answerFrom};
+ghost use Rattle.cgx_answers.specs.Lent.{saidBy, saidAt, StepLent, RecordLent};
 
 #[repr(C)]
 pub struct PlainVerdict {
@@ -121,15 +133,16 @@ pub fn plain_verdict(v: Verdict) -> PlainVerdict
 }
 
 pub fn plain_started(s: WalkStarted) -> PlainStart
+    requires { ⌜ Begun s ⌝ }
     ensures { λ r. ⌜ startedFrom r ≡ s ⌝ }
     ensures place { λ r. ⌜ namesPlace r ≡ true ⌝ }
 {
     match s {
-        WalkStarted::Ready(p) => PlainStart {
+        WalkStarted::Ready(c) => PlainStart {
             ready: true,
             number: 0,
             at: plain_offset(Offset::Nowhere),
-            place: plain_place(p),
+            place: plain_cursor(c),
         },
         WalkStarted::Refused { number, at } => PlainStart {
             ready: false,
@@ -140,37 +153,101 @@ pub fn plain_started(s: WalkStarted) -> PlainStart
     }
 }
 
-// A record's view and the place after it are left in the lent memory, of which nothing changes at the end and at a refusal.
-pub fn leave(o: Outcome, place: &mut PlaceWords, view: &mut ViewWords) -> PlainStep
-    ensures { λ r. ⌜ saidBy r ≡ saidOf o ⌝ }
-    ensures place { λ _. ⌜ now (place .exit) ≡ placeLeft o (now (place .entry)) ⌝ }
-    ensures view { λ _. ⌜ now (view .exit) ≡ viewLeft o (now (view .entry)) ⌝ }
+// 0 goes out as absent.
+fn plain_cursor(c: Cursor) -> PlainPlace
+    ensures { λ r. ⌜ placeFrom r ≡ placeIn c ⌝ }
 {
-    match o {
-        Outcome::Record(v, next) => {
-            put_place(place, next);
-            put_view(view, v);
-            PlainStep {
-                status: 0,
-                number: 0,
-                at: plain_offset(Offset::Nowhere),
-            }
-        }
-        Outcome::Done => PlainStep {
-            status: 1,
-            number: 0,
-            at: plain_offset(Offset::Nowhere),
+    let s = c.state;
+    PlainPlace {
+        at: c.at,
+        cell: plain_number(s.cell),
+        layer: plain_number(s.layer),
+        run: PlainRun {
+            present: s.count != 0,
+            first: s.first,
+            count: s.count,
         },
-        Outcome::Refused {
-            number,
-            at,
-            place: _,
-        } => PlainStep {
-            status: 2,
-            number,
-            at: plain_offset(at),
-        },
+        library: s.library,
+        fresh: s.fresh,
+        ended: s.ended,
     }
+}
+
+fn plain_number(n: usize) -> PlainOffset
+    ensures { λ r. ⌜ offsetFrom r ≡ offsetIn n ⌝ }
+{
+    PlainOffset {
+        present: n != 0,
+        at: n,
+    }
+}
+
+// A step: a record's view and the place after it are left in the lent memory, of which nothing changes at the end and at a refusal.
+pub fn step_over(file: &[u8], place: &mut PlaceWords, view: &mut ViewWords) -> PlainStep
+    ensures { λ r. ⌜ StepLent (now (file .entry)) (now (place .entry)) (now (view .entry)) r (now (place .exit)) (now (view .exit)) ⌝ }
+{
+    let c = cursor_of(place);
+    let s = c.state;
+    let sought = seek(file, c);
+    match sought {
+        Sought::Forged => plain_step(2, 16, Offset::Nowhere),
+        Sought::Ended(v) => plain_end(v),
+        Sought::Known {
+            at,
+            size,
+            kind,
+            flags,
+        } => {
+            leave(file, place, view, s, at, size, kind, flags);
+            plain_step(0, 0, Offset::Nowhere)
+        }
+    }
+}
+
+fn plain_end(v: Verdict) -> PlainStep
+    ensures { λ r. ⌜ saidBy r ≡ saidAt v ⌝ }
+{
+    match v {
+        Verdict::Accepted => plain_step(1, 0, Offset::Nowhere),
+        Verdict::Refused { number, at } => plain_step(2, number, Offset::At(at)),
+    }
+}
+
+fn plain_step(status: u8, number: u8, at: Offset) -> PlainStep
+    ensures { λ r. ⌜ saidBy r ≡ record { status = status; number = number; at = at } ⌝ }
+{
+    PlainStep {
+        status,
+        number,
+        at: plain_offset(at),
+    }
+}
+
+// The good record of n bytes, of kind k and with these flags, at an offset: its fields are stored as they are read.
+fn leave(
+    file: &[u8],
+    place: &mut PlaceWords,
+    view: &mut ViewWords,
+    s: State,
+    at: usize,
+    n: usize,
+    k: Kind,
+    flags: u8,
+)
+    requires { ⌜ Met (now file) s at n k flags ⌝ }
+    ensures { λ _. ⌜ RecordLent (now (file .entry)) s at n k flags (now (place .exit)) (now (view .entry)) (now (view .exit)) ⌝ }
+{
+    let after = next_state(s, at, k);
+    let count = taken(k, s.count);
+    put_head(view, k, flags, at, after.cell, after.layer, s.first, count);
+    fill_fields(file, view, k, flags, at, n);
+    put_cursor(
+        place,
+        Cursor {
+            at: at + n,
+            state: after,
+        },
+    );
 }
 
 pub fn plain_box(b: BoxAt) -> PlainBox

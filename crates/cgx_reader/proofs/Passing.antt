@@ -25,9 +25,9 @@ use denote.Triple.Statement.{Contract}
 use denote.Triple.Entry.{Vals, onEntry}
 use denote.Triple.Spec.{tripleOf}
 use denote.Triple.Clauses.{ensured, lasts}
-use Rattle.cgx_spec.specs.declared.Place.{Place}
-use Rattle.cgx_spec.proofs.Place as P
-use Rattle.cgx_spec.proofs.Place.Laws as P′
+use Rattle.cgx_cursor.specs.declared.Cursor.{Cursor}
+use Rattle.cgx_cursor.proofs.Cursor as P
+use Rattle.cgx_cursor.proofs.Cursor.Laws as P′
 use Rattle.cgx_reader.specs.declared.Reader.{Reader}
 use Rattle.cgx_reader.proofs.Reader.new as new
 
@@ -35,27 +35,27 @@ use Rattle.cgx_reader.proofs.Reader.new as new
 abbrev pub bytesVal : RefT (List ℕ) → Val
 bytesVal s = sliceVal (s .ptr) (length (s .now))
 
-abbrev pub placeVal : Place → Val
+abbrev pub placeVal : Cursor → Val
 placeVal p = LL.val P.the-type P′.the-laws p
 
 -- the parameters, their machine values, and what they own
-abbrev pub passed : RefT (List ℕ) → Place → RefT (List ℕ) × (Place × Unit {0})
+abbrev pub passed : RefT (List ℕ) → Cursor → RefT (List ℕ) × (Cursor × Unit {0})
 passed s p = (s, (p, tt))
 
-abbrev pub passedVals : (κ : Lft) → RefT (List ℕ) → Place → Vals new.signature (κ, tt)
+abbrev pub passedVals : (κ : Lft) → RefT (List ℕ) → Cursor → Vals new.signature (κ, tt)
 passedVals κ s p = (bytesVal s ∷ [], (placeVal p ∷ [], tt))
 
-abbrev pub Passed : Lft → RefT (List ℕ) → Place → Fml
+abbrev pub Passed : Lft → RefT (List ℕ) → Cursor → Fml
 Passed κ s p = owns (ShrSlice (named 0) κ u8 ∷ P.the-row ∷ []) (passed s p) (passedVals κ s p)
 
 -- the contract of `new`, and what it says of the reader
 abbrev pub New : {M : Type 1} (𝓤 : URA M) (H : Heap 𝓤) (A : Atoms 𝓤) (mem : Memory → SProp 𝓤) (run : Routine → Fun 𝓤) → Contract 𝓤
 New 𝓤 H A mem run = tripleOf 𝓤 H A new.signature (new.spec 𝓤 H A mem run)
 
-abbrev pub Holds : RefT (List ℕ) → Place → Reader → Type 0
+abbrev pub Holds : RefT (List ℕ) → Cursor → Reader → Type 0
 Holds s p r = (r .file ≡ s) × (r .place ≡ p)
 
-module _ {M : Type 1} (𝓤 : URA M) (H : Heap 𝓤) (A : Atoms 𝓤) (W : Given 𝓤 H A) (mem : Memory → SProp 𝓤) (run : Routine → Fun 𝓤) (κ : Lft) (q : Share) (s : RefT (List ℕ)) (p : Place) where
+module _ {M : Type 1} (𝓤 : URA M) (H : Heap 𝓤) (A : Atoms 𝓤) (W : Given 𝓤 H A) (mem : Memory → SProp 𝓤) (run : Routine → Fun 𝓤) (κ : Lft) (q : Share) (s : RefT (List ℕ)) (p : Cursor) where
   abbrev OwnS : Fml
   OwnS = ShrSlice (named 0) κ u8 .own s (bytesVal s ∷ [])
 

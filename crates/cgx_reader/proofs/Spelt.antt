@@ -2,7 +2,7 @@
 use mathlib.Core.List.{[]}
 use mir.Syntax.{Lifetime, Ty, tyRef, tyInt, tyStruct, tcons, tnil, imm, w8}
 use denote.Slice.{sliceTy}
-use Rattle.cgx_spec.proofs.Place.Laws as P′
+use Rattle.cgx_cursor.proofs.Cursor.Laws as P′
 use Rattle.cgx_walk.proofs.Outcome.Laws as S′
 use Rattle.cgx_reader.proofs.Reader as T
 use Rattle.cgx_reader.proofs.Moved as N

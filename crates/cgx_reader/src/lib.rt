@@ -3,18 +3,18 @@
 ghost use mathlib.Core.Path.{_≡_};
 ghost use Rattle.cgx_walk.specs.Walk.{StepMade};
 ghost use Rattle.cgx_reader.specs.Reading.{leftAt, Moves};
-use cgx_spec::Place;
+use cgx_cursor::Cursor;
 use cgx_walk::Outcome;
 use cgx_walk::step;
 
 pub struct Reader<'a> {
     pub file: &'a [u8],
-    pub place: Place,
+    pub place: Cursor,
 }
 
 impl<'a> Reader<'a> {
     // A reader at a place: the one that `start` gives, or a later one.
-    pub fn new(file: &'a [u8], place: Place) -> Reader<'a>
+    pub fn new(file: &'a [u8], place: Cursor) -> Reader<'a>
         ensures { λ r. ⌜ (r .file ≡ file .entry) × (r .place ≡ place) ⌝ }
     {
         Reader { file, place }
@@ -27,7 +27,7 @@ impl<'a> Reader<'a> {
         step(self.file, self.place)
     }
 
-    // One step. The reader goes on behind the record that it is given, and stays where it is at the end or at a refusal.
+    // One step. The reader goes on after the record that it is given, and stays where it is at the end or at a refusal.
     pub fn next(&mut self) -> Outcome
         ensures { λ r. ⌜ (now (self .exit) .file ≡ now (self .entry) .file) × Moves (now (now (self .entry) .file)) (now (self .entry) .place) r (now (self .exit) .place) ⌝ }
     {
@@ -38,7 +38,7 @@ impl<'a> Reader<'a> {
 }
 
 // One step, by a reader made for it.
-pub fn read_next(file: &[u8], place: Place) -> Outcome
+pub fn read_next(file: &[u8], place: Cursor) -> Outcome
     ensures { λ r. ⌜ StepMade (now (file .entry)) place r ⌝ }
 {
     Reader::new(file, place).peek()
@@ -47,11 +47,11 @@ pub fn read_next(file: &[u8], place: Place) -> Outcome
 // What a step answers, and the place after it.
 pub struct Moved {
     pub outcome: Outcome,
-    pub place: Place,
+    pub place: Cursor,
 }
 
 // One step, by a reader made for it, and the place where that reader is afterwards.
-pub fn read_on(file: &[u8], place: Place) -> Moved
+pub fn read_on(file: &[u8], place: Cursor) -> Moved
     ensures { λ r. ⌜ Moves (now (file .entry)) place (r .outcome) (r .place) ⌝ }
 {
     let mut reader = Reader::new(file, place);
@@ -64,7 +64,7 @@ pub fn read_on(file: &[u8], place: Place) -> Moved
 
 // ---- what `next` does with the plain bytes and place
 
-fn step_from(file: &[u8], place: Place) -> Moved
+fn step_from(file: &[u8], place: Cursor) -> Moved
     ensures { λ r. ⌜ Moves (now (file .entry)) place (r .outcome) (r .place) ⌝ }
 {
     let outcome = step(file, place);
@@ -75,7 +75,7 @@ fn step_from(file: &[u8], place: Place) -> Moved
     }
 }
 
-fn left_at(place: Place, o: Outcome) -> Place
+fn left_at(place: Cursor, o: Outcome) -> Cursor
     ensures { λ r. ⌜ r ≡ leftAt place o ⌝ }
 {
     match o {

@@ -1,6 +1,6 @@
 -- By cases.
-use mathlib.Core.Path.{refl, sym, ap, _∙_}
-use Rattle.cgx_walk.specs.declared.Started.the-variants.{Ready}
+use mathlib.Core.Path.{refl, sym}
+use Rattle.cgx_answers.proofs.Lent.{ready-from}
 use borrow.Author.Needs.{needs}
 use Rattle.cgx_answers.proofs.plain_started.Statement.{statement}
 use Rattle.cgx_answers.proofs.plain_started.Tie as tie
@@ -11,8 +11,8 @@ enum-known-s c = search needs
 plain-offset-requires : tie.Need-plain-offset-requires
 plain-offset-requires c κs = search needs
 
-plain-place-requires : tie.Need-plain-place-requires
-plain-place-requires c κs = search needs
+plain-cursor-requires : tie.Need-plain-cursor-requires
+plain-cursor-requires c κs = search needs
 
 enum-known-s-2 : tie.Need-enum-known-s-2
 enum-known-s-2 c = search needs
@@ -21,7 +21,7 @@ no-place-requires : tie.Need-no-place-requires
 no-place-requires c κs = search needs
 
 returns : tie.Need-returns
-returns c = (ap Ready (c .plain-place .ensures) ∙ sym (c .before .before .before .s .given .1), refl)
+returns c = (ready-from (c .plain-cursor .result) (c .before .before .before .before .before .args .s) (c .before .before .before .before .before .pre) (c .before .before .before .s .given .1) (c .plain-cursor .ensures), refl)
 
 returns-2 : tie.Need-returns-2
 returns-2 c = (sym (c .before .before .s2 .given .1), refl)
@@ -32,7 +32,7 @@ plain-started-spec =
     (tie.spec
     enum-known-s
     plain-offset-requires
-    plain-place-requires
+    plain-cursor-requires
     enum-known-s-2
     no-place-requires
     returns

@@ -36,9 +36,9 @@ use denote.Triple.Table.{entered, cited}
 use denote.Triple.Walked.{says, Stays, stay-none, stay-none-slice, walkOf, goes-none, goes-none-slice, Walks, ends-at, walked, walk-meets}
 use denote.Exit.{yes}
 use denote.Triple.Clauses.{ensured, lasts}
-use Rattle.cgx_spec.specs.declared.Place.{Place}
-use Rattle.cgx_spec.proofs.Place as P
-use Rattle.cgx_spec.proofs.Place.Laws as P′
+use Rattle.cgx_cursor.specs.declared.Cursor.{Cursor}
+use Rattle.cgx_cursor.proofs.Cursor as P
+use Rattle.cgx_cursor.proofs.Cursor.Laws as P′
 use Rattle.cgx_walk.specs.declared.Outcome.{Outcome}
 use Rattle.cgx_walk.specs.Walk.{StepMade}
 use Rattle.cgx_walk.proofs.Outcome as S
@@ -73,7 +73,7 @@ module _ {M : Type 1} (𝓤 : URA M) (H : Heap 𝓤) (A : Atoms 𝓤) (mem : Mem
   abbrev Peek : Contract 𝓤
   Peek = tripleOf 𝓤 H A peek.signature (peek.spec 𝓤 H A mem run)
 
-module _ {M : Type 1} (𝓤 : URA M) (H : Heap 𝓤) (A : Atoms 𝓤) (W : Given 𝓤 H A) (mem : Memory → SProp 𝓤) (run : Routine → Fun 𝓤) (κ : Lft) (q : Share) (s : RefT (List ℕ)) (p : Place) where
+module _ {M : Type 1} (𝓤 : URA M) (H : Heap 𝓤) (A : Atoms 𝓤) (W : Given 𝓤 H A) (mem : Memory → SProp 𝓤) (run : Routine → Fun 𝓤) (κ : Lft) (q : Share) (s : RefT (List ℕ)) (p : Cursor) where
   -- the machine values of s and of p
   abbrev v : Val
   v = bytesVal s
@@ -81,7 +81,7 @@ module _ {M : Type 1} (𝓤 : URA M) (H : Heap 𝓤) (A : Atoms 𝓤) (W : Given
   abbrev w : Val
   w = placeVal p
 
-  abbrev x : RefT (List ℕ) × (Place × Unit {0})
+  abbrev x : RefT (List ℕ) × (Cursor × Unit {0})
   x = passed s p
 
   abbrev at : Vals read-next.signature (κ, tt)
@@ -106,7 +106,7 @@ module _ {M : Type 1} (𝓤 : URA M) (H : Heap 𝓤) (A : Atoms 𝓤) (W : Given
 
   -- the reader holds what was passed, so its step is the step from there
   made : (r : Reader) (t : Outcome) → Holds s p r → StepMade (now (r .file)) (r .place) t → StepMade (now s) p t
-  made r t e m = subst (λ (y : Place). StepMade (now s) y t) (e .1) (subst (λ (y : RefT (List ℕ)). StepMade (now y) (r .place) t) (e .0) m)
+  made r t e m = subst (λ (y : Cursor). StepMade (now s) y t) (e .1) (subst (λ (y : RefT (List ℕ)). StepMade (now y) (r .place) t) (e .0) m)
 
   exits : (t : Outcome) (u : Val) → StepMade (now s) p t → ent 𝓤 (⋆ 𝓤 H A (‵ (S.the-row .own t (u ∷ [])) ∷ (‵ (flft κ q) ⊛ ‵ ftrue) ∷ ‵ (Passed κ s p) ∷ [])) (Post u)
   exits t u e =

@@ -46,9 +46,9 @@ use denote.Triple.Table.{entered, cited}
 use denote.Triple.Walked.{says, Stays, stay-none, stay-none-slice, walkOf, goes-none, goes-none-slice, Walks, ends-at, walked, walk-meets}
 use denote.Exit.{yes}
 use denote.Triple.Clauses.{ensured, lasts}
-use Rattle.cgx_spec.specs.declared.Place.{Place}
-use Rattle.cgx_spec.proofs.Place as P
-use Rattle.cgx_spec.proofs.Place.Laws as P′
+use Rattle.cgx_cursor.specs.declared.Cursor.{Cursor}
+use Rattle.cgx_cursor.proofs.Cursor as P
+use Rattle.cgx_cursor.proofs.Cursor.Laws as P′
 use Rattle.cgx_walk.specs.declared.Outcome.{Outcome}
 use Rattle.cgx_walk.proofs.Outcome as S
 use Rattle.cgx_walk.proofs.Outcome.Laws as S′
@@ -82,7 +82,7 @@ module _ {M : Type 1} (𝓤 : URA M) (H : Heap 𝓤) (A : Atoms 𝓤) (mem : Mem
   abbrev Next : Contract 𝓤
   Next = tripleOf 𝓤 H A next.signature (next.spec 𝓤 H A mem run)
 
-module _ {M : Type 1} (𝓤 : URA M) (H : Heap 𝓤) (A : Atoms 𝓤) (W : Given 𝓤 H A) (at-mem : Memory → SProp 𝓤) (run : Routine → Fun 𝓤) (κ : Lft) (q : Share) (s : RefT (List ℕ)) (p : Place) where
+module _ {M : Type 1} (𝓤 : URA M) (H : Heap 𝓤) (A : Atoms 𝓤) (W : Given 𝓤 H A) (at-mem : Memory → SProp 𝓤) (run : Routine → Fun 𝓤) (κ : Lft) (q : Share) (s : RefT (List ℕ)) (p : Cursor) where
   -- the struct's type and laws, as `next` has them; as a local of a body has it, the lifetime's name is erased
   abbrev α : NamedLft
   α = record { mir = named 1; lft = κ }
@@ -103,10 +103,10 @@ module _ {M : Type 1} (𝓤 : URA M) (H : Heap 𝓤) (A : Atoms 𝓤) (W : Given
   abbrev v : Val
   v = bytesVal s
 
-  abbrev w : Place → Val
+  abbrev w : Cursor → Val
   w y = placeVal y
 
-  abbrev x : RefT (List ℕ) × (Place × Unit {0})
+  abbrev x : RefT (List ℕ) × (Cursor × Unit {0})
   x = passed s p
 
   abbrev at : Vals read-on.signature (κ, tt)

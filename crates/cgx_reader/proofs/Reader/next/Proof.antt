@@ -44,9 +44,9 @@ use denote.Triple.Entry.{Vals, onEntry}
 use denote.Triple.Spec.{Meets, tripleOf}
 use denote.Triple.Table.{entered, cited}
 use denote.Triple.Walked.{says, Stays, stay-ref, walkOf, goes-ref, Walks, ends-at, walked, walk-meets}
-use Rattle.cgx_spec.specs.declared.Place.{Place}
-use Rattle.cgx_spec.proofs.Place as P
-use Rattle.cgx_spec.proofs.Place.Laws as P′
+use Rattle.cgx_cursor.specs.declared.Cursor.{Cursor}
+use Rattle.cgx_cursor.proofs.Cursor as P
+use Rattle.cgx_cursor.proofs.Cursor.Laws as P′
 use Rattle.cgx_walk.specs.declared.Outcome.{Outcome}
 use Rattle.cgx_walk.proofs.Outcome as S
 use Rattle.cgx_walk.proofs.Outcome.Laws as S′
@@ -93,7 +93,7 @@ module _ {M : Type 1} (𝓤 : URA M) (H : Heap 𝓤) (A : Atoms 𝓤) (W : Given
   R = T.the-row α
 
   -- the struct at the place p, its fields' values, and their machine values and its own
-  abbrev at-place : Place → Reader
+  abbrev at-place : Cursor → Reader
   at-place p = record { file = h .file; place = p }
 
   abbrev vd : Values (D .parts)
@@ -102,10 +102,10 @@ module _ {M : Type 1} (𝓤 : URA M) (H : Heap 𝓤) (A : Atoms 𝓤) (W : Given
   abbrev v : Val
   v = sliceVal (h .file .ptr) (length (h .file .now))
 
-  abbrev w : Place → Val
+  abbrev w : Cursor → Val
   w p = LL.val P.the-type P′.the-laws p
 
-  abbrev mach : Place → Val
+  abbrev mach : Cursor → Val
   mach p = vstruct (vcons v (vcons (w p) vnil))
 
   abbrev Own : Fml

@@ -40,8 +40,8 @@ use denote.Triple.Table.{entered, cited}
 use denote.Triple.Walked.{says, Stays, stay-none, walkOf, goes-none, Walks, ends-at, walked, walk-meets}
 use denote.Exit.{yes}
 use denote.Triple.Clauses.{ensured, lasts}
-use Rattle.cgx_spec.proofs.Place as P
-use Rattle.cgx_spec.proofs.Place.Laws as P′
+use Rattle.cgx_cursor.proofs.Cursor as P
+use Rattle.cgx_cursor.proofs.Cursor.Laws as P′
 use Rattle.cgx_walk.specs.declared.Outcome.{Outcome}
 use Rattle.cgx_walk.specs.Walk.{StepMade}
 use Rattle.cgx_walk.proofs.Outcome as S

@@ -1,0 +1,2 @@
+-- `Lent`: what a step leaves in lent memory.
+pub mod Lent
