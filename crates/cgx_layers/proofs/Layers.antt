@@ -7,15 +7,14 @@ use native.Mathlib.Omega.{arith}
 use borrow.Author.Tests.{le-leb, lt-leb, eq-eqb, ne-eqb}
 use lib.Dec.{eqb}
 use lib.ListN.{length, take, drop, getD, length-drop}
-use lib.Seq.{drop-drop, drop-at, take-add, length-take-le, getD-take, getD-drop}
+use lib.Seq.{drop-drop, drop-at, take-add, length-take-le}
 use Rattle.cgx_spec.specs.declared.Kind.the-variants.{Layer}
 use Rattle.cgx_spec.specs.Strings.{textOf}
-use Rattle.cgx_spec.specs.Fields.{ruleOf, pieces, lengthsFit, keeps}
+use Rattle.cgx_spec.specs.Fields.{ruleOf, optional, width, Value, missing, exactly, numbers, text, value, pieces, lengthsFit, keeps, values}
 use Rattle.cgx_spec.specs.Kinds.{kindOf, layout}
 use Rattle.cgx_spec.specs.Records.{piecesOf, rule, broken}
 use Rattle.cgx_spec.specs.Files.{found, cut}
 use Rattle.cgx_spec.specs.Walking.{recAt}
-use Rattle.cgx_spec.proofs.Lists.{true→T}
 use Rattle.cgx_bodies.specs.Bodies.{numberOr0, bodyFault}
 use Rattle.cgx_headers.specs.declared.Header.{Header}
 use Rattle.cgx_headers.specs.declared.Headed.{Headed}
@@ -23,8 +22,13 @@ use Rattle.cgx_headers.specs.declared.Headed.the-variants.{Bad, Good}
 use Rattle.cgx_headers.specs.Headers.{kindIn, cutMeant, HeaderAt, Heads}
 use Rattle.cgx_headers.proofs.HeaderLaws.{kind-says, flags-say}
 use Rattle.cgx_headers.proofs.Heads.{head-3, header-in}
-use Rattle.cgx_views.specs.Views.{StringAt, OptionalAt}
-use Rattle.cgx_views.proofs.Texts.{ends}
+use Rattle.cgx_kinds.specs.declared.Span.{Span}
+use Rattle.cgx_kinds.specs.declared.Name.{Name}
+use Rattle.cgx_kinds.specs.declared.Name.the-variants.{Absent, Present}
+use Rattle.cgx_kinds.specs.declared.Layer.{Layer as LayerFields}
+use Rattle.cgx_kinds.specs.declared.Fields.the-variants.{Layer as layerFields}
+use Rattle.cgx_kinds.specs.Meant.{spanText, nameText, fieldValues}
+use Rattle.cgx_views.specs.Views.{piecesAt, valuesAt, SpanAt, NameAt, FieldsAt, ReadAlike, OptionalAt}
 use Rattle.cgx_views.proofs.Ready.{layer-ready}
 use Rattle.cgx_layers.specs.declared.Shown.{Shown}
 use Rattle.cgx_layers.specs.declared.Shown.the-variants.{OfFile, OfSubstitute}
@@ -197,6 +201,18 @@ module _ (f : List ℕ) (at : ℕ) {n : ℕ} (s : Stands f at n) where
 drop-take : (m n : ℕ) (l : List ℕ) → m ≤ length l → drop m (take (m + n) l) ≡ take n (drop m l)
 drop-take m n l h = ap (drop m) (take-add m n l) ∙ drop-at (take m l) (take n (drop m l)) m (length-take-le m l h)
 
+-- the length of a text that is read
+lengthIn : Value → ℕ
+lengthIn missing = 0
+lengthIn (exactly z) = 0
+lengthIn (numbers zs) = 0
+lengthIn (text t) = length t
+
+length-in : (b : List ℕ) → lengthIn (value optional b) ≡ length (textOf b)
+unfolding lengthIn value textOf
+length-in [] = refl
+length-in (x ∷ b) = refl
+
 module _ (f : List ℕ) (at n : ℕ) (a : LayerAt f at n) where
   pub layer-room : (8 ≤ n) × (at + n ≤ length f)
   layer-room = (layer-ready (a .readable) .0, a .readable .held .inside)
@@ -223,50 +239,55 @@ module _ (f : List ℕ) (at n : ℕ) (a : LayerAt f at n) where
         ∙ ap (λ (t : List ℕ). named (at + 8) (length t) m) name-is
         ∙ ap (λ (k : ℕ). named (at + 8) k m) (sym (e .0))
 
-    pub empty-shown : len ≡ 0 → (OfSubstitute m ≡ shownOf f at m) × ShownIn f m (OfSubstitute m)
+    empty-shown : len ≡ 0 → (OfSubstitute m ≡ shownOf f at m) × ShownIn f m (OfSubstitute m)
     unfolding named ShownIn
     empty-shown z = (sym (shown-is ∙ ap (λ (k : ℕ). named (at + 8) k m) z), omega arith)
 
-    pub name-shown : (len ≡ 0 → ⊥) → (OfFile (at + 8) len ≡ shownOf f at m) × ShownIn f m (OfFile (at + 8) len)
+    name-shown : {to : ℕ} → to ≡ at + 8 → (len ≡ 0 → ⊥) → (OfFile to len ≡ shownOf f at m) × ShownIn f m (OfFile to len)
     unfolding named ShownIn
-    name-shown z = (sym (shown-is ∙ go len z), let r = layer-room in let l = e .1 in omega arith)
+    name-shown w z = (sym (shown-is ∙ go len z ∙ ap (λ (k : ℕ). OfFile k len) (sym w)), let r = layer-room in let l = e .1 in omega arith)
       where
         go : (k : ℕ) → (k ≡ 0 → ⊥) → named (at + 8) k m ≡ OfFile (at + 8) k
         go zero y = absurd (y refl)
         go (suc k) y = refl
 
--- ---- the length of its text
+  -- the fields that are read of it
+  module _ {l : LayerFields} (r : ReadAlike Layer f at n (layerFields l)) where
+    third : List Value → Value
+    third [] = missing
+    third (x ∷ []) = missing
+    third (x ∷ y ∷ []) = missing
+    third (x ∷ y ∷ z ∷ vs) = z
 
-module _ (f : List ℕ) (at len : ℕ) (o : OptionalAt f at len) where
-  abbrev bytes : List ℕ
-  bytes = take len (drop at f)
+    name-value : nameText f (l .name) ≡ value optional (take (n - 8) (drop (at + 8) f))
+    unfolding fieldValues valuesAt piecesAt layout width values third
+    name-value = ap third (r 0 .meant)
 
-  pub no-bytes : len ≡ 0 → (0 ≡ length (textOf bytes)) × (0 ≤ len)
-  unfolding textOf
-  no-bytes e = (sym (ap (λ (n : ℕ). length (textOf (take n (drop at f)))) e), omega arith)
+    name-length : lengthIn (nameText f (l .name)) ≡ length (textOf (take (n - 8) (drop (at + 8) f)))
+    name-length = ap lengthIn name-value ∙ length-in (take (n - 8) (drop (at + 8) f))
 
-  module _ (h : len ≡ 0 → ⊥) where
-    abbrev here : StringAt f at len
-    here = o .named h
+    absent-name : l .name ≡ Absent → (0 ≡ length (textOf (take (n - 8) (drop (at + 8) f)))) × (0 ≤ n - 8)
+    unfolding nameText lengthIn
+    absent-name q = (ap (λ (x : Name). lengthIn (nameText f x)) (sym q) ∙ name-length, omega arith)
 
-    bytes-length : length bytes ≡ suc (suc (len - 2))
-    bytes-length = let i = o .inside in let l = here .least in length-take-le len (drop at f) (omega (arith, length-drop at f)) ∙ omega arith
+    present-name : {s : Span} → l .name ≡ Present s → (s .at ≡ at + 8) × (s .len ≡ length (textOf (take (n - 8) (drop (at + 8) f)))) × (s .len ≤ n - 8)
+    unfolding nameText spanText lengthIn FieldsAt
+    present-name {s} q =
+        let w : SpanAt (at + 8) (at + n) s = subst (NameAt (at + 8) (at + n)) q (r 0 .located) in
+        let x = w .0 in
+        let y = w .1 in
+        let z = layer-room in
+        let k : length (take (s .len) (drop (s .at) f)) ≡ s .len = length-take-le (s .len) (drop (s .at) f) (omega (arith, length-drop (s .at) f)) in
+        (x, sym k ∙ ap (λ (v : Name). lengthIn (nameText f v)) (sym q) ∙ name-length, omega arith)
 
-    last-but-one : getD bytes (len - 2) 0 ≡ getD f (at + (len - 2)) 0
-    last-but-one = let l = here .least in getD-take len (drop at f) (len - 2) 0 (omega arith) ∙ getD-drop at f (len - 2) 0
+    pub absent-shown : (m : ℕ) → l .name ≡ Absent → (OfSubstitute m ≡ shownOf f at m) × ShownIn f m (OfSubstitute m)
+    absent-shown m q = empty-shown m (absent-name q) refl
 
-    pub two-zeros : getD f (at + (len - 2)) 0 ≡ 0 → (len - 2 ≡ length (textOf bytes)) × (len - 2 ≤ len)
-    two-zeros z = (
-      sym (ap length (ends bytes (len - 2) (true→T (here .good)) bytes-length .0 (last-but-one ∙ z)) ∙ length-take-le (len - 2) bytes (omega (arith, bytes-length))),
-      omega arith,
-    )
+    pub empty-name-shown : (m : ℕ) {s : Span} → l .name ≡ Present s → s .len ≡ 0 → (OfSubstitute m ≡ shownOf f at m) × ShownIn f m (OfSubstitute m)
+    empty-name-shown m q z = empty-shown m (present-name q .1, present-name q .2) z
 
-    pub one-zero : (getD f (at + (len - 2)) 0 ≡ 0 → ⊥) → (len - 2 + 1 ≡ length (textOf bytes)) × (len - 2 + 1 ≤ len)
-    one-zero z =
-        let l = here .least in (
-          sym (ap length (ends bytes (len - 2) (true→T (here .good)) bytes-length .1 (λ y. z (sym last-but-one ∙ y))) ∙ length-take-le (suc (len - 2)) bytes (omega (arith, bytes-length)) ∙ omega arith),
-          omega arith,
-        )
+    pub present-shown : (m : ℕ) {s : Span} → l .name ≡ Present s → (s .len ≡ 0 → ⊥) → (OfFile (s .at) (s .len) ≡ shownOf f at m) × ShownIn f m (OfFile (s .at) (s .len))
+    present-shown m q z = name-shown m (present-name q .1, present-name q .2) (present-name q .0) z
 
 -- ---- the part that is shown
 

@@ -1,18 +1,16 @@
 // The name shown for a layer: a part of the file, or of a substitute text that the caller lends.
 ghost use mathlib.Core.Path.{_≡_};
 ghost use mathlib.Core.Option.{some};
-ghost use lib.ListN.{length, take, drop};
-ghost use Prim.Native.Nat.{_+_, _-_, _≤_};
-ghost use Rattle.cgx_spec.specs.Strings.{textOf};
+ghost use lib.ListN.{length};
 ghost use Rattle.cgx_headers.specs.Headers.{kindIn};
-ghost use Rattle.cgx_views.specs.Views.{OptionalAt};
 ghost use Rattle.cgx_layers.specs.Layers.{layerAnswer, shownOf, shownText, shownPtr, ShownIn, Stands, isLayer};
 use cgx_headers::Headed;
 use cgx_headers::RecordType;
 use cgx_headers::header_at;
-use cgx_kinds::Layer;
+use cgx_kinds::Name;
 use cgx_records::body_fault;
 use cgx_spec::Kind;
+use cgx_views::layer_of;
 
 // Which of the two texts is shown, and how much of it: of the file from an offset on, of the substitute from its beginning.
 pub enum Shown {
@@ -53,15 +51,23 @@ pub fn shown_at(file: &[u8], at: usize, substitute: &[u8]) -> Shown
     if size == 0 {
         return Shown::OfSubstitute { len: 0 };
     }
-    let len = name_len(file, at + Layer::MIN_SIZE, size - Layer::MIN_SIZE);
-    if len == 0 {
-        return Shown::OfSubstitute {
+    let layer = layer_of(file, at, size);
+    let name = layer.name;
+    match name {
+        Name::Absent => Shown::OfSubstitute {
             len: substitute.len(),
-        };
-    }
-    Shown::OfFile {
-        at: at + Layer::MIN_SIZE,
-        len,
+        },
+        Name::Present(text) => {
+            if text.len == 0 {
+                return Shown::OfSubstitute {
+                    len: substitute.len(),
+                };
+            }
+            Shown::OfFile {
+                at: text.at,
+                len: text.len,
+            }
+        }
     }
 }
 
@@ -121,16 +127,4 @@ fn is_layer_kind(k: Kind) -> bool
         Kind::Sref => false,
         Kind::Endlib => false,
     }
-}
-
-// The length of the text in a name of so many bytes, which is a good string or nothing: its last two bytes tell where the text ends.
-fn name_len(file: &[u8], at: usize, len: usize) -> usize
-    requires { ⌜ OptionalAt (now file) at len ⌝ }
-    ensures { λ r. ⌜ (r ≡ length (textOf (take len (drop at (now (file .entry)))))) × (r ≤ len) ⌝ }
-{
-    if len == 0 {
-        return 0;
-    }
-    let n = len - 2;
-    if file[at + n] == 0 { n } else { n + 1 }
 }

@@ -1,7 +1,6 @@
--- By the size of the LAYER and the length of its name, each 0 where there is none.
-use native.Mathlib.Omega.{arith}
+-- By the size of the LAYER, 0 where there is none, and by its name as it is read.
 use lib.ListN.{length}
-use Rattle.cgx_layers.proofs.Layers.{one-there, none-shown, layer-room, layer-named, empty-shown, name-shown}
+use Rattle.cgx_layers.proofs.Layers.{one-there, none-shown, layer-room, layer-named, absent-shown, empty-name-shown, present-shown}
 use borrow.Author.Needs.{needs}
 use Rattle.cgx_layers.proofs.shown_at.Statement.{statement}
 use Rattle.cgx_layers.proofs.shown_at.Tie as tie
@@ -10,25 +9,45 @@ layer-size-requires : tie.Need-layer-size-requires
 layer-size-requires c κs = search needs
 
 returns : tie.Need-returns
-returns c = none-shown (c .before .before .before .before .args .file .now) (c .before .before .before .before .args .at) (c .before .layer-size .ensures) (c .if1 .taken) (length (c .before .before .before .before .args .substitute .now))
+returns c =
+    let s = c .before .before .before .before .args in
+    none-shown (s .file .now) (s .at) (c .before .layer-size .ensures) (c .if1 .taken) (length (s .substitute .now))
 
-add-name-len : tie.Need-add-name-len
-add-name-len c = let r = layer-room (c .before .before .before .before .args .file .now) (c .before .before .before .before .args .at) _ (one-there (c .before .before .before .before .args .file .now) (c .before .before .before .before .args .at) (c .before .layer-size .ensures) (c .if1 .left)) in omega arith
+layer-of-requires : tie.Need-layer-of-requires
+layer-of-requires c κs =
+    let s = c .before .before .before .before .args in
+    let a = one-there (s .file .now) (s .at) (c .before .layer-size .ensures) (c .if1 .left) in
+    (layer-room (s .file .now) (s .at) _ a .0, layer-named (s .file .now) (s .at) _ a)
 
-sub-name-len : tie.Need-sub-name-len
-sub-name-len c = let r = layer-room (c .before .before .before .before .args .file .now) (c .before .before .before .before .args .at) _ (one-there (c .before .before .before .before .args .file .now) (c .before .before .before .before .args .at) (c .before .layer-size .ensures) (c .if1 .left)) in omega arith
+enum-told : tie.Need-enum-told
+enum-told c = search needs
 
-name-len-requires : tie.Need-name-len-requires
-name-len-requires c κs = layer-named (c .before .before .before .before .args .file .now) (c .before .before .before .before .args .at) _ (one-there (c .before .before .before .before .args .file .now) (c .before .before .before .before .args .at) (c .before .layer-size .ensures) (c .if1 .left))
+enum-known-name : tie.Need-enum-known-name
+enum-known-name c = search needs
 
 returns-2 : tie.Need-returns-2
-returns-2 c = empty-shown (c .before .before .before .before .before .before .args .file .now) (c .before .before .before .before .before .before .args .at) _ (one-there (c .before .before .before .before .before .before .args .file .now) (c .before .before .before .before .before .before .args .at) (c .before .before .before .layer-size .ensures) (c .before .before .if1 .left)) (length (c .before .before .before .before .before .before .args .substitute .now)) (c .before .name-len .ensures) (c .if2 .taken)
-
-add-t8 : tie.Need-add-t8
-add-t8 c = let r = layer-room (c .before .before .before .before .before .before .args .file .now) (c .before .before .before .before .before .before .args .at) _ (one-there (c .before .before .before .before .before .before .args .file .now) (c .before .before .before .before .before .before .args .at) (c .before .before .before .layer-size .ensures) (c .before .before .if1 .left)) in omega arith
+returns-2 c =
+    let r = c .before .before .before .before .before in
+    let i = r .before in
+    let s = i .before .before .before .before .args in
+    let a = one-there (s .file .now) (s .at) (i .before .layer-size .ensures) (i .if1 .left) in
+    empty-name-shown (s .file .now) (s .at) _ a (r .layer-of .ensures) (length (s .substitute .now)) (c .before .before .before .name .given .1) (c .if2 .taken)
 
 returns-3 : tie.Need-returns-3
-returns-3 c = name-shown (c .before .before .before .before .before .before .args .file .now) (c .before .before .before .before .before .before .args .at) _ (one-there (c .before .before .before .before .before .before .args .file .now) (c .before .before .before .before .before .before .args .at) (c .before .before .before .layer-size .ensures) (c .before .before .if1 .left)) (length (c .before .before .before .before .before .before .args .substitute .now)) (c .before .name-len .ensures) (c .if2 .left)
+returns-3 c =
+    let r = c .before .before in
+    let i = r .before in
+    let s = i .before .before .before .before .args in
+    let a = one-there (s .file .now) (s .at) (i .before .layer-size .ensures) (i .if1 .left) in
+    absent-shown (s .file .now) (s .at) _ a (r .layer-of .ensures) (length (s .substitute .now)) (c .enum-told .given .1)
+
+returns-4 : tie.Need-returns-4
+returns-4 c =
+    let r = c .before .before .before .before .before in
+    let i = r .before in
+    let s = i .before .before .before .before .args in
+    let a = one-there (s .file .now) (s .at) (i .before .layer-size .ensures) (i .if1 .left) in
+    present-shown (s .file .now) (s .at) _ a (r .layer-of .ensures) (length (s .substitute .now)) (c .before .before .before .name .given .1) (c .if2 .left)
 
 pub shown-at-spec : {M : Type 1} → statement M
 shown-at-spec =
@@ -36,9 +55,9 @@ shown-at-spec =
     (tie.spec
     layer-size-requires
     returns
-    add-name-len
-    sub-name-len
-    name-len-requires
+    layer-of-requires
+    enum-told
+    enum-known-name
     returns-2
-    add-t8
-    returns-3)
+    returns-3
+    returns-4)
