@@ -130,7 +130,7 @@ scaled-is q a z h k =
 
 -- ---- the product m * 16 ^ e as an odd number times a power of two
 
-sixteens : (e : ℕ) → 16 ^ e ≡ 2 ^ (4 * e)
+pub sixteens : (e : ℕ) → 16 ^ e ≡ 2 ^ (4 * e)
 sixteens zero = refl
 sixteens (suc e) =
     let q : 4 * suc e ≡ 4 * e + 4 = omega arith in
@@ -174,7 +174,7 @@ signed-mul false n k = refl
 signed-mul true zero k = ap (λ (x : ℕ). negℤ (pos x)) (zero-mul k) ∙ sym (ap pos (zero-mul k))
 signed-mul true (suc n) k = refl
 
-means-of : (x : Float) (s : Bool) (n : ℕ) → HasValue x s n (2 ^ 312) → Means x (signed s n)
+pub means-of : (x : Float) (s : Bool) (n : ℕ) → HasValue x s n (2 ^ 312) → Means x (signed s n)
 means-of nan s n v = v
 means-of (inf t) s n v = v
 means-of (fin t m d) s n v = ap (λ (b : Bool). signed b (m * up d * 2 ^ 312)) (v .0) ∙ ap (signed s) (v .1) ∙ signed-mul s n (down d)

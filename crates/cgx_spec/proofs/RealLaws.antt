@@ -41,22 +41,22 @@ unfolding exponent
 exponent-lt w = omega arith
 
 -- what `pack` joins is read back
-pack-lt : (s : Bool) (e m : ℕ) → e < 128 → m < 2 ^ 56 → pack s e m < 2 ^ 64
+pub pack-lt : (s : Bool) (e m : ℕ) → e < 128 → m < 2 ^ 56 → pack s e m < 2 ^ 64
 unfolding pack
 pack-lt true e m h k = omega arith
 pack-lt false e m h k = omega arith
 
-negative-pack : (s : Bool) (e m : ℕ) → e < 128 → m < 2 ^ 56 → negative (pack s e m) ≡ s
+pub negative-pack : (s : Bool) (e m : ℕ) → e < 128 → m < 2 ^ 56 → negative (pack s e m) ≡ s
 unfolding pack
 negative-pack true e m h k = negative-yes (2 ^ 63 + e * 2 ^ 56 + m) (omega arith) (omega arith)
 negative-pack false e m h k = negative-no (0 + e * 2 ^ 56 + m) (omega arith)
 
-exponent-pack : (s : Bool) (e m : ℕ) → e < 128 → m < 2 ^ 56 → exponent (pack s e m) ≡ e
+pub exponent-pack : (s : Bool) (e m : ℕ) → e < 128 → m < 2 ^ 56 → exponent (pack s e m) ≡ e
 unfolding pack exponent
 exponent-pack true e m h k = omega arith
 exponent-pack false e m h k = omega arith
 
-mantissa-pack : (s : Bool) (e m : ℕ) → e < 128 → m < 2 ^ 56 → mantissa (pack s e m) ≡ m
+pub mantissa-pack : (s : Bool) (e m : ℕ) → e < 128 → m < 2 ^ 56 → mantissa (pack s e m) ≡ m
 unfolding pack mantissa
 mantissa-pack true e m h k = omega arith
 mantissa-pack false e m h k = omega arith

@@ -1,0 +1,3 @@
+-- The real that equals a double, and what is proved of it.
+pub mod Doubles
+pub mod Demand
