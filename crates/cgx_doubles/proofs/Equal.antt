@@ -38,6 +38,11 @@ pub bits-small : (b : ℕ) → field b ≡ 0 → ofBits binary64 b ≡ odd 53 (l
 unfolding ofBits ofFields
 bits-small b e = let f : b % 2 ^ 63 / 2 ^ 52 ≡ 0 = omega arith in rw f
 
+-- or all ones
+pub bits-ones : (b : ℕ) → field b ≡ 2047 → ofBits binary64 b ≡ cond (eqb (b % 2 ^ 52) 0) (inf (leb (2 ^ 63) b)) nan
+unfolding ofBits ofFields
+bits-ones b e = let f : b % 2 ^ 63 / 2 ^ 52 ≡ 2047 = omega arith in rw f
+
 -- ---- the real
 
 -- 2 ^ 312 times the size of what the real means
