@@ -5,15 +5,15 @@ use mathlib.Core.Bool.{Bool, true, false, cond, true≢false}
 use Prim.Native.Nat.{ℕ, zero, suc, _+_, _-_, _*_, _/_, _%_, _^_, _<_, _≤_}
 use native.Mathlib.Nat.{zero-lt-suc, zero-mul, mul-one, mul-assoc, mul-comm, mul-pos, mul-mod-left, mod-add-div', eq-of-mul-eq-mul-right, le-mul-of-pos-right, mul-le-mul, lt-irrefl, lt-of-lt-of-le, eq-zero-or-pos}
 use native.Mathlib.Omega.{arith}
-use borrow.Author.Tests.{ltb-true, ltb-false, eqb-true, eqb-false, le-leb, eq-eqb}
-use lib.Dec.{T, ltb, leb, eqb, lit<, lit≤}
+use borrow.Author.Tests.{ltb-true, ltb-false, eqb-true, eqb-false, le-leb}
+use lib.Dec.{ltb, leb, eqb, lit<, lit≤}
 use lib.IntN.{pos}
 use lib.Pow.{pow-add, pow-pos, pow-mono}
 use lib.Ieee.{Float, nan, inf, fin, binary64, odd, ofBits, ofFields, toBits}
 use lib.Ieee.Bits.{ofBits-toBits}
 use lib.Ieee.Exact.{odd-sign}
 use Rattle.cgx_spec.specs.declared.Real.the-variants.{Exact}
-use Rattle.cgx_spec.specs.Reals.{exponent, mantissa, pack, value, answer, answerValue, normal, IsNormal, Means}
+use Rattle.cgx_spec.specs.Reals.{exponent, mantissa, value, answer, answerValue, normal, IsNormal, Means}
 use Rattle.cgx_spec.proofs.RealLaws.{pack-lt, exponent-pack, mantissa-pack}
 use Rattle.cgx_spec.proofs.DoubleLaws.{sixteens, exact-zero, double-zero, answer-exact, exact-means}
 use Rattle.cgx_spec.proofs.RealAnswers.{real-promises}
@@ -39,13 +39,14 @@ Right b r = ((r .exact ≡ true) × Good b (r .word)) ⊎ ((r .exact ≡ false) 
 -- where m is 2 ^ 52 at least or e is 0, and m * 16 ^ e has the double's size
 good : (b x e m : ℕ) → field b ≡ suc x → x < 2046 → e < 128 → m < 2 ^ 56 → 0 < m → (e ≡ 0) ⊎ (2 ^ 52 ≤ m) → m * 16 ^ e * 2 ^ 762 ≡ significand b * 2 ^ x → Right b (real b e m)
 good b x e m f l h k p n q =
-    inl
-    (refl,
-    record {
-      reads = read-as b e m s h k (mul-pos p (rw (sixteens e) (pow-pos (4 * e)))) (rw q (bits-value b x f l));
-      is = record { full = rw (exponent-pack s e m h k, mantissa-pack s e m h k) n; bare = λ z. absurd (above p (sym (mantissa-pack s e m h k) ∙ z)) };
-      fits = pack-lt s e m h k;
-    })
+    inl (
+      refl,
+      record {
+        reads = read-as b e m s h k (mul-pos p (rw (sixteens e) (pow-pos (4 * e)))) (rw q (bits-value b x f l));
+        is = record { full = rw (exponent-pack s e m h k, mantissa-pack s e m h k) n; bare = λ z. absurd (above p (sym (mantissa-pack s e m h k) ∙ z)) };
+        fits = pack-lt s e m h k;
+      },
+    )
   where
     s : Bool
     s = leb (2 ^ 63) b
@@ -83,12 +84,13 @@ raised-right b k f l = go (ltb (k / 4) 128) refl
         least : {a : ℕ} → 2 ^ 52 + b % 2 ^ 52 ≤ a → 2 ^ 52 ≤ a
         least {a} h = omega arith
     go false q =
-        inr
-        (refl,
-        refl,
-        λ w a. too-large b k w (ltb-false (k / 4) 128 q)
-        (eq-of-mul-eq-mul-right (2 ^ 762) (pow-pos 762) (whole w) (significand b * 2 ^ k)
-        (read-size w (ofBits binary64 b) (leb (2 ^ 63) b) (significand b * 2 ^ (k + 762)) (bits-value b (k + 762) f l) a ∙ sym (shift (significand b) k 762))))
+        inr (
+          refl,
+          refl,
+          λ w a. too-large b k w (ltb-false (k / 4) 128 q)
+              (eq-of-mul-eq-mul-right (2 ^ 762) (pow-pos 762) (whole w) (significand b * 2 ^ k)
+              (read-size w (ofBits binary64 b) (leb (2 ^ 63) b) (significand b * 2 ^ (k + 762)) (bits-value b (k + 762) f l) a ∙ sym (shift (significand b) k 762))),
+        )
 
 -- ---- by 2 ^ k
 
@@ -133,13 +135,14 @@ module _ (b k x : ℕ) (f : field b ≡ suc x) (t : k + x ≡ 762) where
 zero-right : Right 0 (record { exact = true; word = 0 })
 unfolding ofBits ofFields odd
 zero-right =
-    inl
-    (refl,
-    record {
-      reads = answer-exact 0 (fin false 0 (pos 0)) (exact-zero 0 (unfold mantissa in refl)) (double-zero 0 (unfold mantissa in refl));
-      is = record { full = inl (unfold exponent in refl); bare = λ z. refl };
-      fits = lit< tt;
-    })
+    inl (
+      refl,
+      record {
+        reads = answer-exact 0 (fin false 0 (pos 0)) (exact-zero 0 (unfold mantissa in refl)) (double-zero 0 (unfold mantissa in refl));
+        is = record { full = inl (unfold exponent in refl); bare = λ z. refl };
+        fits = lit< tt;
+      },
+    )
 
 small-none : (b : ℕ) → (b ≡ 0 → ⊥) → field b ≡ 0 → None b
 small-none b n f w a = go (b % 2 ^ 52) refl

@@ -1,21 +1,20 @@
 -- When a real is read as the double with given bits: the real's whole number M = m * 16 ^ e against the double's significand and exponent bits. Assumes nothing.
-use mathlib.Core.Path.{_≡_, refl, sym, ap, _∙_, subst}
-use mathlib.Core.Logic.{_⊎_, inl, inr}
+use mathlib.Core.Path.{_≡_, sym, ap, _∙_, subst}
 use mathlib.Core.Bool.{Bool, true, false, cond}
-use Prim.Native.Nat.{ℕ, zero, suc, _+_, _-_, _*_, _/_, _%_, _^_, _<_, _≤_}
-use native.Mathlib.Nat.{zero-mul, mul-one, mul-assoc, mul-right-comm, mul-pos, eq-of-mul-eq-mul-right, lt-of-lt-of-le, le-mul-of-pos-right, lt-irrefl}
+use Prim.Native.Nat.{ℕ, suc, _+_, _*_, _/_, _%_, _^_, _<_, _≤_}
+use native.Mathlib.Nat.{mul-one, mul-assoc, mul-right-comm, mul-pos, eq-of-mul-eq-mul-right, lt-of-lt-of-le, lt-irrefl}
 use native.Mathlib.Omega.{arith}
-use borrow.Author.Tests.{lt-leb, ne-eqb, eq-eqb}
-use lib.Dec.{T, ltb, leb, eqb, lit<, lit≤}
-use lib.IntN.{ℤ, pos, natAbs}
-use lib.Pow.{pow-add, pow-pos, shl-lt, pow-mono}
+use borrow.Author.Tests.{ne-eqb}
+use lib.Dec.{leb, eqb}
+use lib.IntN.{ℤ}
+use lib.Pow.{pow-pos, shl-lt, pow-mono}
 use lib.Ieee.{Float, nan, inf, fin, binary64, up, down, odd, ofBits, ofFields}
 use lib.Ieee.Bits.{ofBits-fits}
 use lib.Ieee.Exact.{HasValue, odd-sign}
 use lib.Ieee.Fits.{down-pos}
 use Rattle.cgx_spec.specs.declared.Real.the-variants.{Exact}
-use Rattle.cgx_spec.specs.Reals.{negative, exponent, mantissa, pack, signed, value, answer, Means, IsNormal}
-use Rattle.cgx_spec.proofs.RealLaws.{mantissa-lt, exponent-lt, pack-lt, negative-pack, exponent-pack, mantissa-pack}
+use Rattle.cgx_spec.specs.Reals.{negative, exponent, mantissa, pack, signed, value, answer, Means}
+use Rattle.cgx_spec.proofs.RealLaws.{mantissa-lt, exponent-lt, negative-pack, exponent-pack, mantissa-pack}
 use Rattle.cgx_spec.proofs.DoubleLaws.{exact-means, means-of, abs-signed, sixteens}
 use Rattle.cgx_spec.proofs.OneDouble.{size-of, exact-only}
 use Rattle.cgx_doubles.specs.Doubles.{field, significand}

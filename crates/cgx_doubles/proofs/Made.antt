@@ -1,14 +1,13 @@
 -- The definitions' outcomes one by one, for the code: which test gives which answer. Assumes nothing.
-use mathlib.Core.Path.{_≡_, refl, sym, ap, _∙_, subst}
-use mathlib.Core.Bool.{Bool, true, false, _||_, cond}
+use mathlib.Core.Path.{_≡_, refl, ap, _∙_}
+use mathlib.Core.Bool.{true, false, cond}
 use Prim.Native.Nat.{ℕ, zero, suc, _+_, _-_, _*_, _/_, _%_, _^_, _<_, _≤_}
 use native.Mathlib.Nat.{mod-eq-of-lt, mod-add-div', div-mul-le-self, lt-of-lt-of-le}
 use native.Mathlib.Omega.{arith}
 use borrow.Author.Tests.{lt-ltb, le-ltb, eq-eqb, ne-eqb, le-leb, lt-leb}
-use lib.Dec.{leb, ltb, eqb, lit≤}
+use lib.Dec.{leb, lit≤}
 use lib.Pow.{shl-lt, shr-le, pow-mono}
 use Rattle.cgx_spec.specs.Reals.{pack}
-use Rattle.cgx_doubles.specs.declared.FromDouble.{FromDouble}
 use Rattle.cgx_doubles.specs.Doubles.{field, significand, real, inexact, raised, lowered, realFrom}
 
 -- ---- the mantissa has room for it

@@ -79,8 +79,5 @@ fn real_with(bits: u64, e: u64, m: u64) -> FromDouble
     ensures { λ r. ⌜ r ≡ real bits e m ⌝ }
 {
     let word = bits / 0x8000_0000_0000_0000 * 0x8000_0000_0000_0000 + e * 0x100_0000_0000_0000 + m;
-    FromDouble {
-        exact: true,
-        word,
-    }
+    FromDouble { exact: true, word }
 }

@@ -1,7 +1,7 @@
 -- `cgx_doubles::real_raised` is right: e has seven bits or there is no real, and the significand times at most 8 is below 2 ^ 56. Assumes nothing.
 use borrow.Author.Needs.{needs}
-use mathlib.Core.Path.{_∙_, subst, sym}
-use Prim.Native.Nat.{ℕ, _<_, _^_}
+use mathlib.Core.Path.{_∙_}
+use Prim.Native.Nat.{_^_}
 use native.Mathlib.Omega.{arith}
 use Rattle.cgx_doubles.proofs.Made.{up-lt, raised-none, raised-some}
 use Rattle.cgx_doubles.proofs.real_raised.Statement.{statement}
