@@ -1,7 +1,7 @@
 -- Each outcome of the definition is right: a word that is answered is read as the double, and where none is, the double's size is no real's. Assumes nothing.
 use mathlib.Core.Path.{_≡_, refl, sym, ap, _∙_, subst}
 use mathlib.Core.Logic.{_⊎_, inl, inr}
-use mathlib.Core.Bool.{Bool, true, false, cond, true≢false}
+use mathlib.Core.Bool.{Bool, true, false, cond}
 use Prim.Native.Nat.{ℕ, zero, suc, _+_, _-_, _*_, _/_, _%_, _^_, _<_, _≤_}
 use native.Mathlib.Nat.{zero-lt-suc, zero-mul, mul-one, mul-assoc, mul-comm, mul-pos, mul-mod-left, mod-add-div', eq-of-mul-eq-mul-right, le-mul-of-pos-right, mul-le-mul, lt-irrefl, lt-of-lt-of-le, eq-zero-or-pos}
 use native.Mathlib.Omega.{arith}
@@ -31,22 +31,23 @@ record Good (b w : ℕ) : Type 0 where
 abbrev None : ℕ → Type 0
 None b = (w : ℕ) → answer w ≡ Exact (ofBits binary64 b) → ⊥
 
+abbrev Holds : ℕ → Bool → ℕ → Type 0
+Holds b true w = Good b w
+Holds b false w = (w ≡ 0) × None b
+
 abbrev Right : ℕ → FromDouble → Type 0
-Right b r = ((r .exact ≡ true) × Good b (r .word)) ⊎ ((r .exact ≡ false) × (r .word ≡ 0) × None b)
+Right b r = Holds b (r .exact) (r .word)
 
 -- ---- a word with the double's sign
 
 -- where m is 2 ^ 52 at least or e is 0, and m * 16 ^ e has the double's size
 good : (b x e m : ℕ) → field b ≡ suc x → x < 2046 → e < 128 → m < 2 ^ 56 → 0 < m → (e ≡ 0) ⊎ (2 ^ 52 ≤ m) → m * 16 ^ e * 2 ^ 762 ≡ significand b * 2 ^ x → Right b (real b e m)
 good b x e m f l h k p n q =
-    inl (
-      refl,
-      record {
-        reads = read-as b e m s h k (mul-pos p (rw (sixteens e) (pow-pos (4 * e)))) (rw q (bits-value b x f l));
-        is = record { full = rw (exponent-pack s e m h k, mantissa-pack s e m h k) n; bare = λ z. absurd (above p (sym (mantissa-pack s e m h k) ∙ z)) };
-        fits = pack-lt s e m h k;
-      },
-    )
+    record {
+      reads = read-as b e m s h k (mul-pos p (rw (sixteens e) (pow-pos (4 * e)))) (rw q (bits-value b x f l));
+      is = record { full = rw (exponent-pack s e m h k, mantissa-pack s e m h k) n; bare = λ z. absurd (above p (sym (mantissa-pack s e m h k) ∙ z)) };
+      fits = pack-lt s e m h k;
+    }
   where
     s : Bool
     s = leb (2 ^ 63) b
@@ -83,14 +84,12 @@ raised-right b k f l = go (ltb (k / 4) 128) refl
       where
         least : {a : ℕ} → 2 ^ 52 + b % 2 ^ 52 ≤ a → 2 ^ 52 ≤ a
         least {a} h = omega arith
-    go false q =
-        inr (
-          refl,
-          refl,
-          λ w a. too-large b k w (ltb-false (k / 4) 128 q)
-              (eq-of-mul-eq-mul-right (2 ^ 762) (pow-pos 762) (whole w) (significand b * 2 ^ k)
-              (read-size w (ofBits binary64 b) (leb (2 ^ 63) b) (significand b * 2 ^ (k + 762)) (bits-value b (k + 762) f l) a ∙ sym (shift (significand b) k 762))),
-        )
+    go false q = (
+      refl,
+      λ w a. too-large b k w (ltb-false (k / 4) 128 q)
+          (eq-of-mul-eq-mul-right (2 ^ 762) (pow-pos 762) (whole w) (significand b * 2 ^ k)
+          (read-size w (ofBits binary64 b) (leb (2 ^ 63) b) (significand b * 2 ^ (k + 762)) (bits-value b (k + 762) f l) a ∙ sym (shift (significand b) k 762))),
+    )
 
 -- ---- by 2 ^ k
 
@@ -128,21 +127,18 @@ module _ (b k x : ℕ) (f : field b ≡ suc x) (t : k + x ≡ 762) where
           some : (m : ℕ) → m * 2 ^ k ≡ significand b → (m ≡ 0) ⊎ (0 < m) → 0 < m
           some m e (inl z) = absurd (let n : 0 ≡ significand b = sym (zero-mul (2 ^ k)) ∙ ap (λ (j : ℕ). j * 2 ^ k) (sym z) ∙ e in omega arith)
           some m e (inr p) = p
-      go false q = inr (refl, refl, λ w a. eqb-false (significand b % 2 ^ k) 0 q (rest w a))
+      go false q = (refl, λ w a. eqb-false (significand b % 2 ^ k) 0 q (rest w a))
 
 -- ---- no exponent bits, or all of them
 
 zero-right : Right 0 (record { exact = true; word = 0 })
 unfolding ofBits ofFields odd
 zero-right =
-    inl (
-      refl,
-      record {
-        reads = answer-exact 0 (fin false 0 (pos 0)) (exact-zero 0 (unfold mantissa in refl)) (double-zero 0 (unfold mantissa in refl));
-        is = record { full = inl (unfold exponent in refl); bare = λ z. refl };
-        fits = lit< tt;
-      },
-    )
+    record {
+      reads = answer-exact 0 (fin false 0 (pos 0)) (exact-zero 0 (unfold mantissa in refl)) (double-zero 0 (unfold mantissa in refl));
+      is = record { full = inl (unfold exponent in refl); bare = λ z. refl };
+      fits = lit< tt;
+    }
 
 small-none : (b : ℕ) → (b ≡ 0 → ⊥) → field b ≡ 0 → None b
 small-none b n f w a = go (b % 2 ^ 52) refl
@@ -184,11 +180,11 @@ right b = zeros (eq-zero-or-pos b)
         subst (Right b) (from-high b n z o h) (raised-right b (field b - 763) (omega arith) (omega arith))
 
     ones : (b ≡ 0 → ⊥) → (field b ≡ 0 → ⊥) → (t : Bool) → eqb (field b) 2047 ≡ t → Right b (realFrom b)
-    ones n z true q = let o = eqb-true (field b) 2047 q in subst (Right b) (from-ones b n z o) (inr (refl, refl, ones-none b o))
+    ones n z true q = let o = eqb-true (field b) 2047 q in subst (Right b) (from-ones b n z o) (refl, ones-none b o)
     ones n z false q = sides n z (eqb-false (field b) 2047 q) (ltb (field b) 763) refl
 
     fields : (b ≡ 0 → ⊥) → (t : Bool) → eqb (field b) 0 ≡ t → Right b (realFrom b)
-    fields n true q = let z = eqb-true (field b) 0 q in subst (Right b) (from-none b n z) (inr (refl, refl, small-none b n z))
+    fields n true q = let z = eqb-true (field b) 0 q in subst (Right b) (from-none b n z) (refl, small-none b n z)
     fields n false q = ones n (eqb-false (field b) 0 q) (eqb (field b) 2047) refl
 
     zeros : (b ≡ 0) ⊎ (0 < b) → Right b (realFrom b)
@@ -197,38 +193,30 @@ right b = zeros (eq-zero-or-pos b)
 
 -- ---- the statements
 
+yes : (b : ℕ) → realFrom b .exact ≡ true → Good b (realFrom b .word)
+yes b q = subst (λ (t : Bool). Holds b t (realFrom b .word)) q (right b)
+
+no : (b : ℕ) → realFrom b .exact ≡ false → (realFrom b .word ≡ 0) × None b
+no b q = subst (λ (t : Bool). Holds b t (realFrom b .word)) q (right b)
+
 -- the double of an exact real gives back its normal real: it has the same value, and the normal real of a value is one
 back : (w : ℕ) (x : Float) → answer w ≡ Exact x → (realFrom (toBits binary64 x) .exact ≡ true) × (realFrom (toBits binary64 x) .word ≡ normal w)
-back w x a = go (right b)
+back w x a = go (realFrom b .exact) refl
   where
     b : ℕ
     b = toBits binary64 x
 
-    same : ofBits binary64 b ≡ x
-    same = ofBits-toBits binary64 x (real-promises .exact-means w x a .0)
+    v : ℕ
+    v = realFrom b .word
 
-    go : Right b (realFrom b) → (realFrom b .exact ≡ true) × (realFrom b .word ≡ normal w)
-    go (inl (e, g)) = (
-      e,
-      real-promises .normal-only w (realFrom b .word) (g .fits) (g .is)
-          (sym (real-promises .answer-value (realFrom b .word)) ∙ ap answerValue (g .reads ∙ ap Exact same ∙ sym a) ∙ real-promises .answer-value w),
-    )
-    go (inr (e, z, none)) = absurd (none w (a ∙ ap Exact (sym same)))
+    same : Exact (ofBits binary64 b) ≡ answer w
+    same = ap Exact (ofBits-toBits binary64 x (real-promises .exact-means w x a .0)) ∙ sym a
 
--- of the two, the one that is not answered
-yes : (b : ℕ) → realFrom b .exact ≡ true → Good b (realFrom b .word)
-yes b q = go (right b)
-  where
-    go : Right b (realFrom b) → Good b (realFrom b .word)
-    go (inl r) = r .1
-    go (inr r) = absurd (true≢false (sym q ∙ r .0))
-
-no : (b : ℕ) → realFrom b .exact ≡ false → (realFrom b .word ≡ 0) × None b
-no b q = go (right b)
-  where
-    go : Right b (realFrom b) → (realFrom b .word ≡ 0) × None b
-    go (inl r) = absurd (true≢false (sym (r .0) ∙ q))
-    go (inr r) = (r .1, r .2)
+    go : (t : Bool) → realFrom b .exact ≡ t → (realFrom b .exact ≡ true) × (v ≡ normal w)
+    go true q =
+        let g = yes b q in
+        (q, real-promises .normal-only w v (g .fits) (g .is) (sym (real-promises .answer-value v) ∙ ap answerValue (g .reads ∙ same) ∙ real-promises .answer-value w))
+    go false q = absurd (no b q .1 w (sym same))
 
 pub from-double-demand : FromDoubleDemand
 from-double-demand =

@@ -27,7 +27,7 @@ raised b k = cond (ltb (k / 4) 128) (real b (k / 4) (significand b * 2 ^ (k % 4)
 unfoldable pub lowered : ℕ → ℕ → FromDouble
 lowered b k = cond (eqb (significand b % 2 ^ k) 0) (real b 0 (significand b / 2 ^ k)) inexact
 
--- +0 is the real zero. With x = 0 (−0, and what is below 2^−1022) and with x = 2047 (infinities, NaNs) no real equals the double.
+-- +0 is the real zero. With x = 0 (−0, and what is below 2^−1022) and with x = 2047 (infinities, NaNs) no real is read as the double.
 unfoldable pub realFrom : ℕ → FromDouble
 realFrom b =
     cond (eqb b 0) (record { exact = true; word = 0 })

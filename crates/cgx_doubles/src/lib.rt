@@ -3,11 +3,16 @@ ghost use mathlib.Core.Path.{_≡_};
 ghost use Prim.Native.Nat.{_^_, _<_};
 ghost use Rattle.cgx_doubles.specs.Doubles.{real, raised, lowered, realFrom};
 
-// Whether some real equals the double, and then the word of the normal one that does, else 0.
+// Whether some real is read as the double (none is as −0), and then the word of the normal one that is, else 0.
 pub struct FromDouble {
     pub exact: bool,
     pub word: u64,
 }
+
+const INEXACT: FromDouble = FromDouble {
+    exact: false,
+    word: 0,
+};
 
 pub fn real_from_bits(bits: u64) -> FromDouble
     ensures { λ r. ⌜ r ≡ realFrom bits ⌝ }
@@ -20,16 +25,10 @@ pub fn real_from_bits(bits: u64) -> FromDouble
     }
     let x = bits / 0x10_0000_0000_0000 % 2048;
     if x == 0 {
-        return FromDouble {
-            exact: false,
-            word: 0,
-        };
+        return INEXACT;
     }
     if x == 2047 {
-        return FromDouble {
-            exact: false,
-            word: 0,
-        };
+        return INEXACT;
     }
     if x < 763 {
         real_lowered(bits, 763 - x)
@@ -44,10 +43,7 @@ fn real_raised(bits: u64, k: u64) -> FromDouble
 {
     let e = k / 4;
     if 128 <= e {
-        return FromDouble {
-            exact: false,
-            word: 0,
-        };
+        return INEXACT;
     }
     let n = 0x10_0000_0000_0000 + bits % 0x10_0000_0000_0000;
     real_with(bits, e, n << (k % 4))
@@ -58,18 +54,12 @@ fn real_lowered(bits: u64, k: u64) -> FromDouble
     ensures { λ r. ⌜ r ≡ lowered bits k ⌝ }
 {
     if 52 < k {
-        return FromDouble {
-            exact: false,
-            word: 0,
-        };
+        return INEXACT;
     }
     let n = 0x10_0000_0000_0000 + bits % 0x10_0000_0000_0000;
     let m = n >> k;
     if m << k != n {
-        return FromDouble {
-            exact: false,
-            word: 0,
-        };
+        return INEXACT;
     }
     real_with(bits, 0, m)
 }
