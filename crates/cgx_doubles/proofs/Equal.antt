@@ -1,4 +1,4 @@
--- When a real is read as the double with given bits: the real's whole number M = m * 16 ^ e against the double's significand and exponent bits. Assumes nothing.
+-- When a real is read as the double with given bits: the real's whole number m * 16 ^ e (`whole`) against the double's significand and exponent bits. Assumes nothing.
 use mathlib.Core.Path.{_≡_, sym, ap, _∙_, subst}
 use mathlib.Core.Bool.{Bool, true, false, cond}
 use Prim.Native.Nat.{ℕ, suc, _+_, _*_, _/_, _%_, _^_, _<_, _≤_}
