@@ -1,10 +1,12 @@
 // Offsets, runs and places.
-use cgx_spec::Context;
+use cgx_cursor::Cursor;
+use cgx_cursor::State;
 use cgx_spec::Offset;
 use cgx_spec::Place;
 use cgx_spec::Run;
 ghost use mathlib.Core.Path.{_≡_};
-ghost use Rattle.cgx_plain.specs.Plain.{offsetFrom, runFrom, placeFrom};
+ghost use mathlib.Core.Bool.{cond};
+ghost use Rattle.cgx_plain.specs.Plain.{offsetFrom, runFrom, placeFrom, plainNumber, plainPlace, noPlace, cursorFrom};
 
 // An offset, or none.
 #[repr(C)]
@@ -88,68 +90,85 @@ pub fn plain_place(p: Place) -> PlainPlace
     }
 }
 
+// A cursor: 0 goes out as absent.
+pub fn plain_cursor(c: Cursor) -> PlainPlace
+    ensures { λ r. ⌜ r ≡ plainPlace c ⌝ }
+{
+    let s = c.state;
+    PlainPlace {
+        at: c.at,
+        cell: plain_number(s.cell),
+        layer: plain_number(s.layer),
+        run: PlainRun {
+            present: s.count != 0,
+            first: s.first,
+            count: s.count,
+        },
+        library: s.library,
+        fresh: s.fresh,
+        ended: s.ended,
+    }
+}
+
+pub fn plain_number(n: usize) -> PlainOffset
+    ensures { λ r. ⌜ r ≡ plainNumber n ⌝ }
+{
+    PlainOffset {
+        present: n != 0,
+        at: n,
+    }
+}
+
 // No place: a call that is given it answers 16.
 pub fn no_place() -> PlainPlace
-    ensures { λ r. ⌜ r .at ≡ 0 ⌝ }
+    ensures { λ r. ⌜ r ≡ noPlace ⌝ }
 {
-    let nowhere = plain_offset(Offset::Nowhere);
-    let empty = plain_run(Run::Empty);
     PlainPlace {
         at: 0,
-        cell: nowhere,
-        layer: nowhere,
-        run: empty,
+        cell: PlainOffset {
+            present: false,
+            at: 0,
+        },
+        layer: PlainOffset {
+            present: false,
+            at: 0,
+        },
+        run: PlainRun {
+            present: false,
+            first: 0,
+            count: 0,
+        },
         library: false,
         fresh: false,
         ended: false,
     }
 }
 
-// ---- from C
+// ---- from C: absent is 0, whatever is beside it
 
-pub fn offset_from(p: PlainOffset) -> Offset
-    ensures { λ r. ⌜ r ≡ offsetFrom p ⌝ }
+pub fn cursor_from(p: PlainPlace) -> Cursor
+    ensures { λ r. ⌜ r ≡ cursorFrom p ⌝ }
 {
-    let at = p.at;
-    if p.present {
-        return Offset::At(at);
-    }
-    Offset::Nowhere
-}
-
-pub fn run_from(p: PlainRun) -> Run
-    ensures { λ r. ⌜ r ≡ runFrom p ⌝ }
-{
-    let first = p.first;
-    let count = p.count;
-    if p.present {
-        return Run::Of { first, count };
-    }
-    Run::Empty
-}
-
-pub fn place_from(p: PlainPlace) -> Place
-    ensures { λ r. ⌜ r ≡ placeFrom p ⌝ }
-{
-    let at = p.at;
-    let plain_cell = p.cell;
-    let plain_layer = p.layer;
-    let plain_run = p.run;
-    let library = p.library;
-    let fresh = p.fresh;
-    let ended = p.ended;
-    let cell = offset_from(plain_cell);
-    let layer = offset_from(plain_layer);
-    let run = run_from(plain_run);
-    Place {
-        at,
-        context: Context {
-            library,
-            cell,
-            layer,
-            fresh,
-            run,
-            ended,
+    let cell = p.cell;
+    let layer = p.layer;
+    let run = p.run;
+    let some = run.present & (run.count != 0);
+    Cursor {
+        at: p.at,
+        state: State {
+            cell: number_if(cell.present, cell.at),
+            layer: number_if(layer.present, layer.at),
+            first: number_if(some, run.first),
+            count: number_if(some, run.count),
+            library: p.library,
+            fresh: p.fresh,
+            ended: p.ended,
         },
     }
+}
+
+fn number_if(present: bool, n: usize) -> usize
+    ensures { λ r. ⌜ r ≡ cond present n 0 ⌝ }
+{
+    if present { n } else { 0 }
 }
