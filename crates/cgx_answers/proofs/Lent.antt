@@ -87,18 +87,6 @@ module _ (f p₀ v₀ : List ℕ) {c : Cursor} (e : c ≡ cursorOf (placeOf p₀
         goes-on = ap (λ (w : List ℕ). cursorOf (placeOf w)) (d .place) ∙ ap cursorOf (place-back (placeIn a)) ∙ sym (m .1 c);
       }
 
--- ---- offsets and runs as plain numbers
-
-pub offset-plain : (n : ℕ) → cond (not (eqb n 0)) (At n) Nowhere ≡ offsetIn n
-unfolding offsetIn
-offset-plain zero = refl
-offset-plain (suc n) = rw (eqb·suc-zero n) refl
-
-pub run-plain : (first n : ℕ) → cond (not (eqb n 0)) (Of first n) Empty ≡ runIn first n
-unfolding runIn
-run-plain first zero = refl
-run-plain first (suc n) = rw (eqb·suc-zero n) refl
-
 -- ---- the start
 
 -- a start that is ready is the cursor of the place that C is given

@@ -1,7 +1,9 @@
 -- What the answers that pass to C mean: one definition for each, with the library's own cases. Definitions only.
 use mathlib.Core.Path.{_≡_}
-use mathlib.Core.Bool.{Bool, true, cond}
+use mathlib.Core.Bool.{Bool, true, false, cond}
+use mathlib.Core.List.{List}
 use Prim.Native.Nat.{ℕ, zero, suc}
+use lib.Dec.{eqb}
 use Rattle.cgx_spec.specs.declared.Verdict.{Verdict}
 use Rattle.cgx_spec.specs.declared.Verdict.the-variants.{Accepted, Refused as NotAccepted}
 use Rattle.cgx_cursor.specs.Cursors.{placeIn, cursorOf}
@@ -18,11 +20,11 @@ use Rattle.cgx_layers.specs.declared.Shown.the-variants.{OfFile, OfSubstitute}
 use Rattle.cgx_extent.specs.declared.CellExtent.{CellExtent}
 use Rattle.cgx_extent.specs.declared.CellExtent.the-variants as extents
 use Rattle.cgx_extent.specs.declared.Rectangle.the-variants as rectangles
-use Rattle.cgx_writing.specs.declared.Started.{Started}
-use Rattle.cgx_writing.specs.declared.Started.the-variants as writer
+use Rattle.cgx_writing.specs.declared.Writer.{Writer}
 use Rattle.cgx_writing.specs.declared.Answer.{Answer}
-use Rattle.cgx_writing.specs.declared.Answer.the-variants as answers
-use Rattle.cgx_plain.specs.Plain.{offsetFrom, placeFrom}
+use Rattle.cgx_writing.specs.Writing.{firstWriter, Outcome, isTaken, Begun as Begins}
+use Rattle.cgx_plain.specs.declared.places.PlainPlace.{PlainPlace}
+use Rattle.cgx_plain.specs.Plain.{offsetFrom, placeFrom, plainNumber, plainPlace, noPlace, cursorFrom}
 use Rattle.cgx_answers.specs.declared.PlainVerdict.{PlainVerdict}
 use Rattle.cgx_answers.specs.declared.PlainStart.{PlainStart}
 use Rattle.cgx_answers.specs.declared.PlainBox.{PlainBox}
@@ -69,10 +71,28 @@ extentBy (suc (suc n)) p = extents.Refused (p .number) (offsetFrom (p .at))
 abbrev pub extentFrom : PlainExtent → CellExtent
 extentFrom p = extentBy (p .status) p
 
--- ---- answers of the writer
+-- ---- the writer
 
-abbrev pub begunFrom : PlainStart → Started
-begunFrom p = cond (p .ready) (writer.Ready (placeFrom (p .place))) (writer.Refused (p .number) (offsetFrom (p .at)))
+abbrev pub writerFrom : PlainPlace → Writer
+writerFrom p = record { cursor = cursorFrom p }
 
-abbrev pub answerFrom : PlainAnswer → Answer
-answerFrom p = cond (p .taken) (answers.Taken (placeFrom (p .place))) (answers.Refused (p .number) (offsetFrom (p .at)) (placeFrom (p .place)))
+-- The number that a start answers: 0, and the writer to begin with, or a refusal, which names no offset.
+abbrev pub plainBegun : ℕ → PlainStart
+plainBegun n =
+    cond (eqb n 0)
+    (record { ready = true; number = 0; at = plainNumber 0; place = plainPlace (firstWriter .cursor) })
+    (record { ready = false; number = n; at = plainNumber 0; place = noPlace })
+
+abbrev pub plainAnswer : Answer → PlainAnswer
+plainAnswer a = record { taken = isTaken a; number = a .number; at = plainNumber (a .at); place = plainPlace (a .writer .cursor) }
+
+-- What a call gives C, with the buffer as it leaves it.
+pub record Sent (A : Type 0) : Type 0 where
+  pub answer : A
+  pub buffer : List ℕ
+
+abbrev pub sentStart : Begins → Sent PlainStart
+sentStart o = record { answer = plainBegun (o .answer); buffer = o .buffer }
+
+abbrev pub sent : Outcome → Sent PlainAnswer
+sent o = record { answer = plainAnswer (o .answer); buffer = o .buffer }

@@ -1,4 +1,4 @@
-// Answers of the reader and the writer as C has them: structs of plain numbers with a status. specs/Answers.antt says what each of them stands for.
+// Answers of the reader and the writer as C has them: structs of plain numbers with a status. specs/Answers.antt says what each of them means.
 use cgx_cursor::Cursor;
 use cgx_cursor::State;
 use cgx_cursor::next_state;
@@ -13,10 +13,11 @@ use cgx_lists::PointAt;
 use cgx_normal::Made;
 use cgx_plain::places::PlainOffset;
 use cgx_plain::places::PlainPlace;
-use cgx_plain::places::PlainRun;
+use cgx_plain::places::cursor_from;
 use cgx_plain::places::no_place;
+use cgx_plain::places::plain_cursor;
+use cgx_plain::places::plain_number;
 use cgx_plain::places::plain_offset;
-use cgx_plain::places::plain_place;
 use cgx_spec::Kind;
 use cgx_spec::Offset;
 use cgx_spec::Verdict;
@@ -30,14 +31,12 @@ use cgx_words::PlaceWords;
 use cgx_words::cursor_of;
 use cgx_words::put_cursor;
 use cgx_writing::Answer;
-use cgx_writing::Started;
+use cgx_writing::Writer;
 ghost use mathlib.Core.Path.{_≡_};
 ghost use mathlib.Core.Bool.{true};
 ghost use Prim.Native.Nat.{_≤_};
-ghost use Rattle.cgx_cursor.specs.Cursors.{offsetIn, placeIn};
-ghost use Rattle.cgx_plain.specs.Plain.{offsetFrom, placeFrom};
 ghost use Rattle.cgx_walk.specs.Walk.{Met};
-ghost use Rattle.cgx_answers.specs.Answers.{verdictFrom, Begun, startedFrom, namesPlace, boxFrom, pointFrom, madeFrom, shownFrom, extentFrom, begunFrom, answerFrom};
+ghost use Rattle.cgx_answers.specs.Answers.{verdictFrom, Begun, startedFrom, namesPlace, boxFrom, pointFrom, madeFrom, shownFrom, extentFrom, writerFrom, plainBegun, plainAnswer};
 ghost use Rattle.cgx_answers.specs.Lent.{saidBy, saidAt, StepLent, RecordLent};
 
 #[repr(C)]
@@ -150,35 +149,6 @@ pub fn plain_started(s: WalkStarted) -> PlainStart
             at: PlainOffset { present: true, at },
             place: no_place(),
         },
-    }
-}
-
-// 0 goes out as absent.
-fn plain_cursor(c: Cursor) -> PlainPlace
-    ensures { λ r. ⌜ placeFrom r ≡ placeIn c ⌝ }
-{
-    let s = c.state;
-    PlainPlace {
-        at: c.at,
-        cell: plain_number(s.cell),
-        layer: plain_number(s.layer),
-        run: PlainRun {
-            present: s.count != 0,
-            first: s.first,
-            count: s.count,
-        },
-        library: s.library,
-        fresh: s.fresh,
-        ended: s.ended,
-    }
-}
-
-fn plain_number(n: usize) -> PlainOffset
-    ensures { λ r. ⌜ offsetFrom r ≡ offsetIn n ⌝ }
-{
-    PlainOffset {
-        present: n != 0,
-        at: n,
     }
 }
 
@@ -359,40 +329,44 @@ fn no_sides() -> Sides {
 
 // ---- the writer
 
-pub fn plain_begun(s: Started) -> PlainStart
-    ensures { λ r. ⌜ begunFrom r ≡ s ⌝ }
+// The writer of a place that C gives.
+pub fn writer_from(p: PlainPlace) -> Writer
+    ensures { λ r. ⌜ r ≡ writerFrom p ⌝ }
 {
-    match s {
-        Started::Ready(p) => PlainStart {
+    Writer {
+        cursor: cursor_from(p),
+    }
+}
+
+// Of the number that a start answers.
+pub fn plain_begun(number: u8) -> PlainStart
+    ensures { λ r. ⌜ r ≡ plainBegun number ⌝ }
+{
+    if number == 0 {
+        let first = Writer::start();
+        return PlainStart {
             ready: true,
             number: 0,
-            at: plain_offset(Offset::Nowhere),
-            place: plain_place(p),
-        },
-        Started::Refused { number, at } => PlainStart {
-            ready: false,
-            number,
-            at: plain_offset(at),
-            place: no_place(),
-        },
+            at: plain_number(0),
+            place: plain_cursor(first.cursor),
+        };
+    }
+    PlainStart {
+        ready: false,
+        number,
+        at: plain_number(0),
+        place: no_place(),
     }
 }
 
 pub fn plain_answer(a: Answer) -> PlainAnswer
-    ensures { λ r. ⌜ answerFrom r ≡ a ⌝ }
+    ensures { λ r. ⌜ r ≡ plainAnswer a ⌝ }
 {
-    match a {
-        Answer::Taken(p) => PlainAnswer {
-            taken: true,
-            number: 0,
-            at: plain_offset(Offset::Nowhere),
-            place: plain_place(p),
-        },
-        Answer::Refused { number, at, place } => PlainAnswer {
-            taken: false,
-            number,
-            at: plain_offset(at),
-            place: plain_place(place),
-        },
+    let writer = a.writer;
+    PlainAnswer {
+        taken: a.number == 0,
+        number: a.number,
+        at: plain_number(a.at),
+        place: plain_cursor(writer.cursor),
     }
 }

@@ -1,15 +1,17 @@
--- What a call of the writer does with a place and answers, where plain structs stand for both. Assumes nothing.
+-- What a call of the writer does and answers, as C has it. Assumes nothing.
 use mathlib.Core.Path.{_≡_, ap, _∙_}
 use mathlib.Core.List.{List}
 use Prim.Native.Nat.{ℕ}
-use Rattle.cgx_spec.specs.declared.Place.{Place}
+use Rattle.cgx_writing.specs.declared.Writer.{Writer}
 use Rattle.cgx_writing.specs.declared.Answer.{Answer}
-use Rattle.cgx_writing.specs.declared.Started.{Started}
 use Rattle.cgx_writing.specs.Writing.{Outcome, Begun}
+use Rattle.cgx_answers.specs.declared.PlainStart.{PlainStart}
+use Rattle.cgx_answers.specs.declared.PlainAnswer.{PlainAnswer}
+use Rattle.cgx_answers.specs.Answers.{plainBegun, plainAnswer, sentStart, sent}
 
--- `f` is what the call does at each place.
-pub called : (f : Place → Outcome) (b : List ℕ) {x a : Answer} {p q : Place} → x ≡ a → p ≡ q → record { answer = a; buffer = b } ≡ f p → record { answer = x; buffer = b } ≡ f q
-called f b e s h = ap (λ (y : Answer). record { answer = y; buffer = b }) e ∙ h ∙ ap f s
+-- `f` is what the call does for each writer.
+pub called : (f : Writer → Outcome) (b : List ℕ) {x : PlainAnswer} {a : Answer} {v w : Writer} → x ≡ plainAnswer a → v ≡ w → record { answer = a; buffer = b } ≡ f v → record { answer = x; buffer = b } ≡ sent (f w)
+called f b e s h = ap (λ (y : PlainAnswer). record { answer = y; buffer = b }) e ∙ ap sent (h ∙ ap f s)
 
-pub begun : (w : Begun) (b : List ℕ) {x a : Started} → x ≡ a → record { answer = a; buffer = b } ≡ w → record { answer = x; buffer = b } ≡ w
-begun w b e h = ap (λ (y : Started). record { answer = y; buffer = b }) e ∙ h
+pub begun : (o : Begun) (b : List ℕ) {x : PlainStart} {n : ℕ} → x ≡ plainBegun n → record { answer = n; buffer = b } ≡ o → record { answer = x; buffer = b } ≡ sentStart o
+begun o b e h = ap (λ (y : PlainStart). record { answer = y; buffer = b }) e ∙ ap sentStart h

@@ -3,6 +3,7 @@ use cgx_answers::PlainAnswer;
 use cgx_answers::PlainStart;
 use cgx_answers::plain_answer;
 use cgx_answers::plain_begun;
+use cgx_answers::writer_from;
 use cgx_kinds::DataType;
 use cgx_kinds::Date;
 use cgx_kinds::LayerNo;
@@ -11,20 +12,18 @@ use cgx_makers::caption_frame;
 use cgx_makers::test_card;
 use cgx_plain::PlainEight;
 use cgx_plain::places::PlainPlace;
-use cgx_plain::places::place_from;
 use cgx_writing::EndStyle;
 use cgx_writing::Grid;
 ghost use mathlib.Core.Path.{_≡_};
 ghost use mathlib.Core.Option.{none, some};
-ghost use Rattle.cgx_plain.specs.Plain.{placeFrom};
-ghost use Rattle.cgx_answers.specs.Answers.{begunFrom, answerFrom};
+ghost use Rattle.cgx_answers.specs.Answers.{writerFrom, sentStart, sent};
 ghost use Rattle.cgx_writing.specs.Given.{givenLibrary, givenStruct, givenCprpty, givenProperty, givenLayer, givenBox, givenPoly, givenWire, givenText, givenSref, givenEndlib};
 ghost use Rattle.cgx_writing.specs.Writing.{startIn, callIn};
 ghost use Rattle.cgx_makers.specs.Makers.{cardCalls, frameCalls, allIn};
 
 #[no_mangle]
 pub extern "C" fn cgx_write_start(buf: &mut [u8]) -> PlainStart
-    ensures { λ r. ⌜ record { answer = begunFrom r; buffer = now (buf .exit) } ≡ startIn (now (buf .entry)) ⌝ }
+    ensures { λ r. ⌜ record { answer = r; buffer = now (buf .exit) } ≡ sentStart (startIn (now (buf .entry))) ⌝ }
 {
     plain_begun(cgx_writer::start(buf))
 }
@@ -42,13 +41,13 @@ pub extern "C" fn cgx_write_library(
     modified: Date,
     name: &[u8],
 ) -> PlainAnswer
-    ensures { λ r. ⌜ record { answer = answerFrom r; buffer = now (buf .exit) } ≡ callIn (now (buf .entry)) (placeFrom place) (givenLibrary version (munit .bytes) (uunit .bytes) created modified (now (name .entry))) ⌝ }
+    ensures { λ r. ⌜ record { answer = r; buffer = now (buf .exit) } ≡ sent (callIn (now (buf .entry)) (writerFrom place) (givenLibrary version (munit .bytes) (uunit .bytes) created modified (now (name .entry)))) ⌝ }
 {
     let munit_bytes = munit.bytes;
     let uunit_bytes = uunit.bytes;
     plain_answer(cgx_writer::library(
         buf,
-        place_from(place),
+        writer_from(place),
         version,
         munit_bytes,
         uunit_bytes,
@@ -66,9 +65,9 @@ pub extern "C" fn cgx_write_struct(
     modified: Date,
     name: &[u8],
 ) -> PlainAnswer
-    ensures { λ r. ⌜ record { answer = answerFrom r; buffer = now (buf .exit) } ≡ callIn (now (buf .entry)) (placeFrom place) (givenStruct created modified (now (name .entry))) ⌝ }
+    ensures { λ r. ⌜ record { answer = r; buffer = now (buf .exit) } ≡ sent (callIn (now (buf .entry)) (writerFrom place) (givenStruct created modified (now (name .entry)))) ⌝ }
 {
-    plain_answer(cgx_writer::structure(buf, place_from(place), created, modified, name))
+    plain_answer(cgx_writer::structure(buf, writer_from(place), created, modified, name))
 }
 
 #[no_mangle]
@@ -78,9 +77,9 @@ pub extern "C" fn cgx_write_cprpty(
     number: i32,
     value: &[u8],
 ) -> PlainAnswer
-    ensures { λ r. ⌜ record { answer = answerFrom r; buffer = now (buf .exit) } ≡ callIn (now (buf .entry)) (placeFrom place) (givenCprpty number (now (value .entry))) ⌝ }
+    ensures { λ r. ⌜ record { answer = r; buffer = now (buf .exit) } ≡ sent (callIn (now (buf .entry)) (writerFrom place) (givenCprpty number (now (value .entry)))) ⌝ }
 {
-    plain_answer(cgx_writer::cprpty(buf, place_from(place), number, value))
+    plain_answer(cgx_writer::cprpty(buf, writer_from(place), number, value))
 }
 
 #[no_mangle]
@@ -90,9 +89,9 @@ pub extern "C" fn cgx_write_property(
     number: i32,
     value: &[u8],
 ) -> PlainAnswer
-    ensures { λ r. ⌜ record { answer = answerFrom r; buffer = now (buf .exit) } ≡ callIn (now (buf .entry)) (placeFrom place) (givenProperty number (now (value .entry))) ⌝ }
+    ensures { λ r. ⌜ record { answer = r; buffer = now (buf .exit) } ≡ sent (callIn (now (buf .entry)) (writerFrom place) (givenProperty number (now (value .entry)))) ⌝ }
 {
-    plain_answer(cgx_writer::property(buf, place_from(place), number, value))
+    plain_answer(cgx_writer::property(buf, writer_from(place), number, value))
 }
 
 #[no_mangle]
@@ -102,9 +101,9 @@ pub extern "C" fn cgx_write_layer(
     number: LayerNo,
     datatype: DataType,
 ) -> PlainAnswer
-    ensures { λ r. ⌜ record { answer = answerFrom r; buffer = now (buf .exit) } ≡ callIn (now (buf .entry)) (placeFrom place) (givenLayer number datatype none) ⌝ }
+    ensures { λ r. ⌜ record { answer = r; buffer = now (buf .exit) } ≡ sent (callIn (now (buf .entry)) (writerFrom place) (givenLayer number datatype none)) ⌝ }
 {
-    plain_answer(cgx_writer::layer(buf, place_from(place), number, datatype))
+    plain_answer(cgx_writer::layer(buf, writer_from(place), number, datatype))
 }
 
 #[no_mangle]
@@ -115,23 +114,23 @@ pub extern "C" fn cgx_write_named_layer(
     datatype: DataType,
     name: &[u8],
 ) -> PlainAnswer
-    ensures { λ r. ⌜ record { answer = answerFrom r; buffer = now (buf .exit) } ≡ callIn (now (buf .entry)) (placeFrom place) (givenLayer number datatype (some (now (name .entry)))) ⌝ }
+    ensures { λ r. ⌜ record { answer = r; buffer = now (buf .exit) } ≡ sent (callIn (now (buf .entry)) (writerFrom place) (givenLayer number datatype (some (now (name .entry))))) ⌝ }
 {
-    plain_answer(cgx_writer::named_layer(buf, place_from(place), number, datatype, name))
+    plain_answer(cgx_writer::named_layer(buf, writer_from(place), number, datatype, name))
 }
 
 #[no_mangle]
 pub extern "C" fn cgx_write_box(buf: &mut [u8], place: PlainPlace, sides: &[i32]) -> PlainAnswer
-    ensures { λ r. ⌜ record { answer = answerFrom r; buffer = now (buf .exit) } ≡ callIn (now (buf .entry)) (placeFrom place) (givenBox (now (sides .entry))) ⌝ }
+    ensures { λ r. ⌜ record { answer = r; buffer = now (buf .exit) } ≡ sent (callIn (now (buf .entry)) (writerFrom place) (givenBox (now (sides .entry)))) ⌝ }
 {
-    plain_answer(cgx_writer::boxes(buf, place_from(place), sides))
+    plain_answer(cgx_writer::boxes(buf, writer_from(place), sides))
 }
 
 #[no_mangle]
 pub extern "C" fn cgx_write_poly(buf: &mut [u8], place: PlainPlace, points: &[i32]) -> PlainAnswer
-    ensures { λ r. ⌜ record { answer = answerFrom r; buffer = now (buf .exit) } ≡ callIn (now (buf .entry)) (placeFrom place) (givenPoly (now (points .entry))) ⌝ }
+    ensures { λ r. ⌜ record { answer = r; buffer = now (buf .exit) } ≡ sent (callIn (now (buf .entry)) (writerFrom place) (givenPoly (now (points .entry)))) ⌝ }
 {
-    plain_answer(cgx_writer::poly(buf, place_from(place), points))
+    plain_answer(cgx_writer::poly(buf, writer_from(place), points))
 }
 
 #[no_mangle]
@@ -141,9 +140,9 @@ pub extern "C" fn cgx_write_wire(
     width: i32,
     points: &[i32],
 ) -> PlainAnswer
-    ensures { λ r. ⌜ record { answer = answerFrom r; buffer = now (buf .exit) } ≡ callIn (now (buf .entry)) (placeFrom place) (givenWire EndStyle.Unstated width (now (points .entry))) ⌝ }
+    ensures { λ r. ⌜ record { answer = r; buffer = now (buf .exit) } ≡ sent (callIn (now (buf .entry)) (writerFrom place) (givenWire EndStyle.Unstated width (now (points .entry)))) ⌝ }
 {
-    plain_answer(cgx_writer::wire(buf, place_from(place), EndStyle::Unstated, width, points))
+    plain_answer(cgx_writer::wire(buf, writer_from(place), EndStyle::Unstated, width, points))
 }
 
 #[no_mangle]
@@ -154,11 +153,11 @@ pub extern "C" fn cgx_write_styled_wire(
     width: i32,
     points: &[i32],
 ) -> PlainAnswer
-    ensures { λ r. ⌜ record { answer = answerFrom r; buffer = now (buf .exit) } ≡ callIn (now (buf .entry)) (placeFrom place) (givenWire (EndStyle.Stated style) width (now (points .entry))) ⌝ }
+    ensures { λ r. ⌜ record { answer = r; buffer = now (buf .exit) } ≡ sent (callIn (now (buf .entry)) (writerFrom place) (givenWire (EndStyle.Stated style) width (now (points .entry)))) ⌝ }
 {
     plain_answer(cgx_writer::wire(
         buf,
-        place_from(place),
+        writer_from(place),
         EndStyle::Stated(style),
         width,
         points,
@@ -174,9 +173,9 @@ pub extern "C" fn cgx_write_text(
     width: i32,
     label: &[u8],
 ) -> PlainAnswer
-    ensures { λ r. ⌜ record { answer = answerFrom r; buffer = now (buf .exit) } ≡ callIn (now (buf .entry)) (placeFrom place) (givenText flags at width (now (label .entry))) ⌝ }
+    ensures { λ r. ⌜ record { answer = r; buffer = now (buf .exit) } ≡ sent (callIn (now (buf .entry)) (writerFrom place) (givenText flags at width (now (label .entry)))) ⌝ }
 {
-    plain_answer(cgx_writer::text(buf, place_from(place), flags, at, width, label))
+    plain_answer(cgx_writer::text(buf, writer_from(place), flags, at, width, label))
 }
 
 #[no_mangle]
@@ -190,13 +189,13 @@ pub extern "C" fn cgx_write_sref(
     grid: Grid,
     name: &[u8],
 ) -> PlainAnswer
-    ensures { λ r. ⌜ record { answer = answerFrom r; buffer = now (buf .exit) } ≡ callIn (now (buf .entry)) (placeFrom place) (givenSref flags at (angle .bytes) (magnif .bytes) grid (now (name .entry))) ⌝ }
+    ensures { λ r. ⌜ record { answer = r; buffer = now (buf .exit) } ≡ sent (callIn (now (buf .entry)) (writerFrom place) (givenSref flags at (angle .bytes) (magnif .bytes) grid (now (name .entry)))) ⌝ }
 {
     let angle_bytes = angle.bytes;
     let magnif_bytes = magnif.bytes;
     plain_answer(cgx_writer::sref(
         buf,
-        place_from(place),
+        writer_from(place),
         flags,
         at,
         angle_bytes,
@@ -208,9 +207,9 @@ pub extern "C" fn cgx_write_sref(
 
 #[no_mangle]
 pub extern "C" fn cgx_write_endlib(buf: &mut [u8], place: PlainPlace) -> PlainAnswer
-    ensures { λ r. ⌜ record { answer = answerFrom r; buffer = now (buf .exit) } ≡ callIn (now (buf .entry)) (placeFrom place) givenEndlib ⌝ }
+    ensures { λ r. ⌜ record { answer = r; buffer = now (buf .exit) } ≡ sent (callIn (now (buf .entry)) (writerFrom place) givenEndlib) ⌝ }
 {
-    plain_answer(cgx_writer::endlib(buf, place_from(place)))
+    plain_answer(cgx_writer::endlib(buf, writer_from(place)))
 }
 
 // ---- the makers: all or nothing
@@ -224,9 +223,9 @@ pub extern "C" fn cgx_write_test_card(
     right: i32,
     top: i32,
 ) -> PlainAnswer
-    ensures { λ r. ⌜ record { answer = answerFrom r; buffer = now (buf .exit) } ≡ allIn (now (buf .entry)) (placeFrom place) (cardCalls left bottom right top) ⌝ }
+    ensures { λ r. ⌜ record { answer = r; buffer = now (buf .exit) } ≡ sent (allIn (now (buf .entry)) (writerFrom place) (cardCalls left bottom right top)) ⌝ }
 {
-    plain_answer(test_card(buf, place_from(place), left, bottom, right, top))
+    plain_answer(test_card(buf, writer_from(place), left, bottom, right, top))
 }
 
 #[no_mangle]
@@ -239,7 +238,7 @@ pub extern "C" fn cgx_write_caption_frame(
     top: i32,
     label: &[u8],
 ) -> PlainAnswer
-    ensures { λ r. ⌜ record { answer = answerFrom r; buffer = now (buf .exit) } ≡ allIn (now (buf .entry)) (placeFrom place) (frameCalls left bottom right top (now (label .entry))) ⌝ }
+    ensures { λ r. ⌜ record { answer = r; buffer = now (buf .exit) } ≡ sent (allIn (now (buf .entry)) (writerFrom place) (frameCalls left bottom right top (now (label .entry)))) ⌝ }
 {
-    plain_answer(caption_frame(buf, place_from(place), left, bottom, right, top, label))
+    plain_answer(caption_frame(buf, writer_from(place), left, bottom, right, top, label))
 }

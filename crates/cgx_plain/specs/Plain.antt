@@ -68,13 +68,13 @@ cursorFrom p =
     record {
       at = p .at;
       state =
-        record {
-          cell = numberFrom (p .cell);
-          layer = numberFrom (p .layer);
-          first = cond (hasRun (p .run)) (p .run .first) 0;
-          count = cond (hasRun (p .run)) (p .run .count) 0;
-          library = p .library;
-          fresh = p .fresh;
-          ended = p .ended;
-        };
+          record {
+            cell = numberFrom (p .cell);
+            layer = numberFrom (p .layer);
+            first = cond (hasRun (p .run)) (p .run .first) 0;
+            count = cond (hasRun (p .run)) (p .run .count) 0;
+            library = p .library;
+            fresh = p .fresh;
+            ended = p .ended;
+          };
     }

@@ -2,11 +2,9 @@
 use cgx_cursor::Cursor;
 use cgx_cursor::State;
 use cgx_spec::Offset;
-use cgx_spec::Place;
-use cgx_spec::Run;
 ghost use mathlib.Core.Path.{_≡_};
 ghost use mathlib.Core.Bool.{cond};
-ghost use Rattle.cgx_plain.specs.Plain.{offsetFrom, runFrom, placeFrom, plainNumber, plainPlace, noPlace, cursorFrom};
+ghost use Rattle.cgx_plain.specs.Plain.{offsetFrom, plainNumber, plainPlace, noPlace, cursorFrom};
 
 // An offset, or none.
 #[repr(C)]
@@ -45,48 +43,6 @@ pub fn plain_offset(o: Offset) -> PlainOffset
             at: 0,
         },
         Offset::At(at) => PlainOffset { present: true, at },
-    }
-}
-
-pub fn plain_run(r: Run) -> PlainRun
-    ensures { λ v. ⌜ runFrom v ≡ r ⌝ }
-{
-    match r {
-        Run::Empty => PlainRun {
-            present: false,
-            first: 0,
-            count: 0,
-        },
-        Run::Of { first, count } => PlainRun {
-            present: true,
-            first,
-            count,
-        },
-    }
-}
-
-pub fn plain_place(p: Place) -> PlainPlace
-    ensures { λ r. ⌜ placeFrom r ≡ p ⌝ }
-{
-    let at = p.at;
-    let c = p.context;
-    let cell_at = c.cell;
-    let layer_at = c.layer;
-    let awaited = c.run;
-    let library = c.library;
-    let fresh = c.fresh;
-    let ended = c.ended;
-    let cell = plain_offset(cell_at);
-    let layer = plain_offset(layer_at);
-    let run = plain_run(awaited);
-    PlainPlace {
-        at,
-        cell,
-        layer,
-        run,
-        library,
-        fresh,
-        ended,
     }
 }
 

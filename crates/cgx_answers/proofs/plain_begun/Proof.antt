@@ -1,44 +1,45 @@
--- By cases.
-use mathlib.Core.Path.{sym, ap, _∙_}
-use Rattle.cgx_spec.specs.declared.Offset.{Offset}
-use Rattle.cgx_writing.specs.declared.Started.the-variants.{Ready, Refused}
+-- By the number.
+use mathlib.Core.Path.{ap, ap₂, _∙_}
+use mathlib.Core.Bool.{true, false}
+use borrow.Author.Tests.{eq-eqb, ne-eqb}
+use Rattle.cgx_plain.specs.declared.places.PlainOffset.{PlainOffset}
+use Rattle.cgx_plain.specs.declared.places.PlainPlace.{PlainPlace}
+use Rattle.cgx_plain.specs.Plain.{plainPlace}
+use Rattle.cgx_writing.specs.declared.Writer.{Writer}
+use Rattle.cgx_answers.specs.declared.PlainStart.{PlainStart}
 use borrow.Author.Needs.{needs}
 use Rattle.cgx_answers.proofs.plain_begun.Statement.{statement}
 use Rattle.cgx_answers.proofs.plain_begun.Tie as tie
 
-enum-known-s : tie.Need-enum-known-s
-enum-known-s c = search needs
+start-requires : tie.Need-start-requires
+start-requires c κs = search needs
 
-plain-offset-requires : tie.Need-plain-offset-requires
-plain-offset-requires c κs = search needs
+plain-number-requires : tie.Need-plain-number-requires
+plain-number-requires c κs = search needs
 
-plain-place-requires : tie.Need-plain-place-requires
-plain-place-requires c κs = search needs
+plain-cursor-requires : tie.Need-plain-cursor-requires
+plain-cursor-requires c κs = search needs
 
-enum-known-s-2 : tie.Need-enum-known-s-2
-enum-known-s-2 c = search needs
+returns : tie.Need-returns
+returns c =
+    let t = eq-eqb (c .before .before .before .before .args .number) 0 (c .before .before .before .if1 .taken) in
+    let q = c .plain-cursor .ensures ∙ ap (λ (w : Writer). plainPlace (w .cursor)) (c .before .before .start .ensures) in
+    let r = c .before .plain-number .ensures in
+    rw t (λ i. record { ready = true; number = 0; at = r i; place = q i })
 
-plain-offset-requires-2 : tie.Need-plain-offset-requires-2
-plain-offset-requires-2 c κs = search needs
+plain-number-requires-2 : tie.Need-plain-number-requires-2
+plain-number-requires-2 c κs = search needs
 
 no-place-requires : tie.Need-no-place-requires
 no-place-requires c κs = search needs
 
-returns : tie.Need-returns
-returns c = ap Ready (c .plain-place .ensures) ∙ sym (c .before .before .before .s .given .1)
-
 returns-2 : tie.Need-returns-2
-returns-2 c = ap (λ (o : Offset). Refused (c .before .before .before .s2 .given .0 .0) o) (c .before .plain-offset2 .ensures) ∙ sym (c .before .before .before .s2 .given .1)
+returns-2 c =
+    let n = c .before .before .before .args .number in
+    let t = ne-eqb n 0 (c .before .before .if1 .left) in
+    let q = c .no-place .ensures in
+    let r = c .before .plain-number2 .ensures in
+    rw t (λ i. record { ready = false; number = n; at = r i; place = q i })
 
 pub plain-begun-spec : {M : Type 1} → statement M
-plain-begun-spec =
-    tie.close
-    (tie.spec
-    enum-known-s
-    plain-offset-requires
-    plain-place-requires
-    enum-known-s-2
-    plain-offset-requires-2
-    no-place-requires
-    returns
-    returns-2)
+plain-begun-spec = tie.close (tie.spec start-requires plain-number-requires plain-cursor-requires returns plain-number-requires-2 no-place-requires returns-2)

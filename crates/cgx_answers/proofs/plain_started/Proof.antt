@@ -1,5 +1,7 @@
 -- By cases.
-use mathlib.Core.Path.{refl, sym}
+use mathlib.Core.Path.{refl, sym, ap, _∙_}
+use Rattle.cgx_plain.specs.Plain.{placeFrom}
+use Rattle.cgx_plain.proofs.Back.{place-plain}
 use Rattle.cgx_answers.proofs.Lent.{ready-from}
 use borrow.Author.Needs.{needs}
 use Rattle.cgx_answers.proofs.plain_started.Statement.{statement}
@@ -21,7 +23,7 @@ no-place-requires : tie.Need-no-place-requires
 no-place-requires c κs = search needs
 
 returns : tie.Need-returns
-returns c = (ready-from (c .plain-cursor .result) (c .before .before .before .before .before .args .s) (c .before .before .before .before .before .pre) (c .before .before .before .s .given .1) (c .plain-cursor .ensures), refl)
+returns c = (ready-from (c .plain-cursor .result) (c .before .before .before .before .before .args .s) (c .before .before .before .before .before .pre) (c .before .before .before .s .given .1) (ap placeFrom (c .plain-cursor .ensures) ∙ place-plain _), refl)
 
 returns-2 : tie.Need-returns-2
 returns-2 c = (sym (c .before .before .s2 .given .1), refl)

@@ -1,5 +1,5 @@
--- The struct stands for the answer of the call.
-use Rattle.cgx_spec.specs.declared.Place.{Place}
+-- The answer of the call, as C has it.
+use Rattle.cgx_writing.specs.declared.Writer.{Writer}
 use Rattle.cgx_writing.specs.Given.{givenCprpty}
 use Rattle.cgx_writing.specs.Writing.{callIn}
 use mathlib.Core.Path.{_≡_, _∙_}
@@ -10,8 +10,8 @@ use borrow.Author.Needs.{needs}
 use Rattle.cgx_c.proofs.writing.cgx_write_cprpty.Statement.{statement}
 use Rattle.cgx_c.proofs.writing.cgx_write_cprpty.Tie as tie
 
-place-from-requires : tie.Need-place-from-requires
-place-from-requires c κs = search needs
+writer-from-requires : tie.Need-writer-from-requires
+writer-from-requires c κs = search needs
 
 cprpty-requires : tie.Need-cprpty-requires
 cprpty-requires c κs = search needs
@@ -26,10 +26,10 @@ returns : tie.Need-returns
 returns c =
     let t = c .before .before .before .before .before .before .before .before in
     let s = t .args in
-    let q : callIn (s .buf .now) (c .before .before .before .before .place-from .result) _ ≡ _ = λ i. callIn (s .buf .now) (c .before .before .before .before .place-from .result) (givenCprpty (back w32 {z = s .number} (t .fits .number .sfits) i) (s .value .now)) in
-    called (λ (p : Place). callIn (s .buf .now) p (givenCprpty (s .number) (s .value .now))) _ (c .plain-answer .ensures) (c .before .before .before .before .place-from .ensures) (c .before .before .before .cprpty .ensures .0 ∙ q)
+    let q : callIn (s .buf .now) (c .before .before .before .before .writer-from .result) _ ≡ _ = λ i. callIn (s .buf .now) (c .before .before .before .before .writer-from .result) (givenCprpty (back w32 {z = s .number} (t .fits .number .sfits) i) (s .value .now)) in
+    called (λ (w : Writer). callIn (s .buf .now) w (givenCprpty (s .number) (s .value .now))) _ (c .plain-answer .ensures) (c .before .before .before .before .writer-from .ensures) (c .before .before .before .cprpty .ensures .0 ∙ q)
 
 pub cgx-write-cprpty-spec : {M : Type 1} → statement M
 cgx-write-cprpty-spec =
     tie.close
-    (tie.spec place-from-requires cprpty-requires plain-answer-requires same-length returns)
+    (tie.spec writer-from-requires cprpty-requires plain-answer-requires same-length returns)

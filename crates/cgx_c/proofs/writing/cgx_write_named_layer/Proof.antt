@@ -1,6 +1,6 @@
--- The struct stands for the answer of the call.
+-- The answer of the call, as C has it.
 use mathlib.Core.Option.{some}
-use Rattle.cgx_spec.specs.declared.Place.{Place}
+use Rattle.cgx_writing.specs.declared.Writer.{Writer}
 use Rattle.cgx_writing.specs.Given.{givenLayer}
 use Rattle.cgx_writing.specs.Writing.{callIn}
 use Rattle.cgx_c.proofs.Calls.{called}
@@ -8,8 +8,8 @@ use borrow.Author.Needs.{needs}
 use Rattle.cgx_c.proofs.writing.cgx_write_named_layer.Statement.{statement}
 use Rattle.cgx_c.proofs.writing.cgx_write_named_layer.Tie as tie
 
-place-from-requires : tie.Need-place-from-requires
-place-from-requires c κs = search needs
+writer-from-requires : tie.Need-writer-from-requires
+writer-from-requires c κs = search needs
 
 named-layer-requires : tie.Need-named-layer-requires
 named-layer-requires c κs = search needs
@@ -23,9 +23,9 @@ same-length c = search needs
 returns : tie.Need-returns
 returns c =
     let s = c .before .before .before .before .before .before .before .before .args in
-    called (λ (p : Place). callIn (s .buf .now) p (givenLayer (s .number) (s .datatype) (some (s .name .now)))) _ (c .plain-answer .ensures) (c .before .before .before .before .place-from .ensures) (c .before .before .before .named-layer .ensures .0)
+    called (λ (w : Writer). callIn (s .buf .now) w (givenLayer (s .number) (s .datatype) (some (s .name .now)))) _ (c .plain-answer .ensures) (c .before .before .before .before .writer-from .ensures) (c .before .before .before .named-layer .ensures .0)
 
 pub cgx-write-named-layer-spec : {M : Type 1} → statement M
 cgx-write-named-layer-spec =
     tie.close
-    (tie.spec place-from-requires named-layer-requires plain-answer-requires same-length returns)
+    (tie.spec writer-from-requires named-layer-requires plain-answer-requires same-length returns)

@@ -1,4 +1,4 @@
--- The struct stands for the answer of the call.
+-- The answer of the call, as C has it.
 use Rattle.cgx_writing.specs.Writing.{startIn}
 use Rattle.cgx_c.proofs.Calls.{begun}
 use borrow.Author.Needs.{needs}

@@ -1,5 +1,5 @@
--- The struct stands for the answer of the call.
-use Rattle.cgx_spec.specs.declared.Place.{Place}
+-- The answer of the call, as C has it.
+use Rattle.cgx_writing.specs.declared.Writer.{Writer}
 use Rattle.cgx_writing.specs.Given.{givenStruct}
 use Rattle.cgx_writing.specs.Writing.{callIn}
 use Rattle.cgx_c.proofs.Calls.{called}
@@ -7,8 +7,8 @@ use borrow.Author.Needs.{needs}
 use Rattle.cgx_c.proofs.writing.cgx_write_struct.Statement.{statement}
 use Rattle.cgx_c.proofs.writing.cgx_write_struct.Tie as tie
 
-place-from-requires : tie.Need-place-from-requires
-place-from-requires c κs = search needs
+writer-from-requires : tie.Need-writer-from-requires
+writer-from-requires c κs = search needs
 
 structure-requires : tie.Need-structure-requires
 structure-requires c κs = search needs
@@ -22,9 +22,9 @@ same-length c = search needs
 returns : tie.Need-returns
 returns c =
     let s = c .before .before .before .before .before .before .before .before .args in
-    called (λ (p : Place). callIn (s .buf .now) p (givenStruct (s .created) (s .modified) (s .name .now))) _ (c .plain-answer .ensures) (c .before .before .before .before .place-from .ensures) (c .before .before .before .structure .ensures .0)
+    called (λ (w : Writer). callIn (s .buf .now) w (givenStruct (s .created) (s .modified) (s .name .now))) _ (c .plain-answer .ensures) (c .before .before .before .before .writer-from .ensures) (c .before .before .before .structure .ensures .0)
 
 pub cgx-write-struct-spec : {M : Type 1} → statement M
 cgx-write-struct-spec =
     tie.close
-    (tie.spec place-from-requires structure-requires plain-answer-requires same-length returns)
+    (tie.spec writer-from-requires structure-requires plain-answer-requires same-length returns)

@@ -1,6 +1,6 @@
--- The struct stands for the answer of the call.
+-- The answer of the call, as C has it.
 use Rattle.cgx_writing.specs.declared.EndStyle.the-variants.{Stated}
-use Rattle.cgx_spec.specs.declared.Place.{Place}
+use Rattle.cgx_writing.specs.declared.Writer.{Writer}
 use Rattle.cgx_writing.specs.Given.{givenWire}
 use Rattle.cgx_writing.specs.Writing.{callIn}
 use mathlib.Core.Path.{_≡_, _∙_}
@@ -11,8 +11,8 @@ use borrow.Author.Needs.{needs}
 use Rattle.cgx_c.proofs.writing.cgx_write_styled_wire.Statement.{statement}
 use Rattle.cgx_c.proofs.writing.cgx_write_styled_wire.Tie as tie
 
-place-from-requires : tie.Need-place-from-requires
-place-from-requires c κs = search needs
+writer-from-requires : tie.Need-writer-from-requires
+writer-from-requires c κs = search needs
 
 wire-requires : tie.Need-wire-requires
 wire-requires c κs = search needs
@@ -27,10 +27,10 @@ returns : tie.Need-returns
 returns c =
     let t = c .before .before .before .before .before .before .before in
     let s = t .args in
-    let q : callIn (s .buf .now) (c .before .before .before .before .place-from .result) _ ≡ _ = λ i. callIn (s .buf .now) (c .before .before .before .before .place-from .result) (givenWire (Stated (s .style)) (back w32 {z = s .width} (t .fits .width .sfits) i) (s .points .now)) in
-    called (λ (p : Place). callIn (s .buf .now) p (givenWire (Stated (s .style)) (s .width) (s .points .now))) _ (c .plain-answer .ensures) (c .before .before .before .before .place-from .ensures) (c .before .before .before .wire .ensures .0 ∙ q)
+    let q : callIn (s .buf .now) (c .before .before .before .before .writer-from .result) _ ≡ _ = λ i. callIn (s .buf .now) (c .before .before .before .before .writer-from .result) (givenWire (Stated (s .style)) (back w32 {z = s .width} (t .fits .width .sfits) i) (s .points .now)) in
+    called (λ (w : Writer). callIn (s .buf .now) w (givenWire (Stated (s .style)) (s .width) (s .points .now))) _ (c .plain-answer .ensures) (c .before .before .before .before .writer-from .ensures) (c .before .before .before .wire .ensures .0 ∙ q)
 
 pub cgx-write-styled-wire-spec : {M : Type 1} → statement M
 cgx-write-styled-wire-spec =
     tie.close
-    (tie.spec place-from-requires wire-requires plain-answer-requires same-length returns)
+    (tie.spec writer-from-requires wire-requires plain-answer-requires same-length returns)

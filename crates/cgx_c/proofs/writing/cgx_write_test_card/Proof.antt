@@ -1,5 +1,5 @@
--- The struct stands for the answer of the call.
-use Rattle.cgx_spec.specs.declared.Place.{Place}
+-- The answer of the call, as C has it.
+use Rattle.cgx_writing.specs.declared.Writer.{Writer}
 use Rattle.cgx_makers.specs.Makers.{allIn, cardCalls}
 use mathlib.Core.Path.{_≡_, _∙_}
 use mir.Syntax.{w32}
@@ -9,8 +9,8 @@ use borrow.Author.Needs.{needs}
 use Rattle.cgx_c.proofs.writing.cgx_write_test_card.Statement.{statement}
 use Rattle.cgx_c.proofs.writing.cgx_write_test_card.Tie as tie
 
-place-from-requires : tie.Need-place-from-requires
-place-from-requires c κs = search needs
+writer-from-requires : tie.Need-writer-from-requires
+writer-from-requires c κs = search needs
 
 test-card-requires : tie.Need-test-card-requires
 test-card-requires c κs = search needs
@@ -25,10 +25,10 @@ returns : tie.Need-returns
 returns c =
     let t = c .before .before .before .before .before .before .before in
     let s = t .args in
-    let q : allIn (s .buf .now) (c .before .before .before .before .place-from .result) _ ≡ _ = λ i. allIn (s .buf .now) (c .before .before .before .before .place-from .result) (cardCalls (back w32 {z = s .left} (t .fits .left .sfits) i) (back w32 {z = s .bottom} (t .fits .bottom .sfits) i) (back w32 {z = s .right} (t .fits .right .sfits) i) (back w32 {z = s .top} (t .fits .top .sfits) i)) in
-    called (λ (p : Place). allIn (s .buf .now) p (cardCalls (s .left) (s .bottom) (s .right) (s .top))) _ (c .plain-answer .ensures) (c .before .before .before .before .place-from .ensures) (c .before .before .before .test-card .ensures .0 ∙ q)
+    let q : allIn (s .buf .now) (c .before .before .before .before .writer-from .result) _ ≡ _ = λ i. allIn (s .buf .now) (c .before .before .before .before .writer-from .result) (cardCalls (back w32 {z = s .left} (t .fits .left .sfits) i) (back w32 {z = s .bottom} (t .fits .bottom .sfits) i) (back w32 {z = s .right} (t .fits .right .sfits) i) (back w32 {z = s .top} (t .fits .top .sfits) i)) in
+    called (λ (w : Writer). allIn (s .buf .now) w (cardCalls (s .left) (s .bottom) (s .right) (s .top))) _ (c .plain-answer .ensures) (c .before .before .before .before .writer-from .ensures) (c .before .before .before .test-card .ensures .0 ∙ q)
 
 pub cgx-write-test-card-spec : {M : Type 1} → statement M
 cgx-write-test-card-spec =
     tie.close
-    (tie.spec place-from-requires test-card-requires plain-answer-requires same-length returns)
+    (tie.spec writer-from-requires test-card-requires plain-answer-requires same-length returns)

@@ -1,5 +1,5 @@
--- The struct stands for the answer of the call.
-use Rattle.cgx_spec.specs.declared.Place.{Place}
+-- The answer of the call, as C has it.
+use Rattle.cgx_writing.specs.declared.Writer.{Writer}
 use Rattle.cgx_writing.specs.Given.{givenText}
 use Rattle.cgx_writing.specs.Writing.{callIn}
 use mathlib.Core.Path.{_≡_, _∙_}
@@ -10,8 +10,8 @@ use borrow.Author.Needs.{needs}
 use Rattle.cgx_c.proofs.writing.cgx_write_text.Statement.{statement}
 use Rattle.cgx_c.proofs.writing.cgx_write_text.Tie as tie
 
-place-from-requires : tie.Need-place-from-requires
-place-from-requires c κs = search needs
+writer-from-requires : tie.Need-writer-from-requires
+writer-from-requires c κs = search needs
 
 text-requires : tie.Need-text-requires
 text-requires c κs = search needs
@@ -26,10 +26,10 @@ returns : tie.Need-returns
 returns c =
     let t = c .before .before .before .before .before .before .before .before in
     let s = t .args in
-    let q : callIn (s .buf .now) (c .before .before .before .before .place-from .result) _ ≡ _ = λ i. callIn (s .buf .now) (c .before .before .before .before .place-from .result) (givenText (s .flags) (s .at) (back w32 {z = s .width} (t .fits .width .sfits) i) (s .label .now)) in
-    called (λ (p : Place). callIn (s .buf .now) p (givenText (s .flags) (s .at) (s .width) (s .label .now))) _ (c .plain-answer .ensures) (c .before .before .before .before .place-from .ensures) (c .before .before .before .text .ensures .0 ∙ q)
+    let q : callIn (s .buf .now) (c .before .before .before .before .writer-from .result) _ ≡ _ = λ i. callIn (s .buf .now) (c .before .before .before .before .writer-from .result) (givenText (s .flags) (s .at) (back w32 {z = s .width} (t .fits .width .sfits) i) (s .label .now)) in
+    called (λ (w : Writer). callIn (s .buf .now) w (givenText (s .flags) (s .at) (s .width) (s .label .now))) _ (c .plain-answer .ensures) (c .before .before .before .before .writer-from .ensures) (c .before .before .before .text .ensures .0 ∙ q)
 
 pub cgx-write-text-spec : {M : Type 1} → statement M
 cgx-write-text-spec =
     tie.close
-    (tie.spec place-from-requires text-requires plain-answer-requires same-length returns)
+    (tie.spec writer-from-requires text-requires plain-answer-requires same-length returns)

@@ -22,15 +22,15 @@ returns c =
     λ i. record {
       at = p .at;
       state =
-        record {
-          cell = c .before .before .before .number-if .ensures i;
-          layer = c .before .before .number-if2 .ensures i;
-          first = c .before .number-if3 .ensures i;
-          count = c .number-if4 .ensures i;
-          library = p .library;
-          fresh = p .fresh;
-          ended = p .ended;
-        };
+          record {
+            cell = c .before .before .before .number-if .ensures i;
+            layer = c .before .before .number-if2 .ensures i;
+            first = c .before .number-if3 .ensures i;
+            count = c .number-if4 .ensures i;
+            library = p .library;
+            fresh = p .fresh;
+            ended = p .ended;
+          };
     }
 
 pub cursor-from-spec : {M : Type 1} → statement M

@@ -1,0 +1,2 @@
+-- `Back`: cursors as plain places, and back.
+pub mod Back
