@@ -9,19 +9,21 @@ use Rattle.cgx_spec.specs.declared.Kind.{Kind}
 use Rattle.cgx_spec.specs.declared.Offset.the-variants.{Nowhere, At}
 use Rattle.cgx_spec.specs.declared.Verdict.{Verdict}
 use Rattle.cgx_spec.specs.declared.Verdict.the-variants.{Accepted, Refused as NotAccepted}
+use Rattle.cgx_spec.specs.Files.{opening}
 use Rattle.cgx_spec.specs.Order.{next}
 use Rattle.cgx_spec.specs.Walking.{ending}
 use Rattle.cgx_kinds.specs.declared.View.{View}
 use Rattle.cgx_cursor.specs.declared.State.{State}
 use Rattle.cgx_cursor.specs.declared.Cursor.{Cursor}
 use Rattle.cgx_cursor.specs.Cursors.{offsetIn, runIn, contextIn, placeIn, stateOf, cursorOf}
+use Rattle.cgx_cursor.proofs.Laws.{first-in}
 use Rattle.cgx_put.specs.Put.{put}
 use Rattle.cgx_views.proofs.Ready.{read-as}
 use Rattle.cgx_walk.specs.declared.Outcome.{Outcome}
 use Rattle.cgx_walk.specs.declared.Outcome.the-variants.{Record, Done, Refused}
 use Rattle.cgx_walk.specs.declared.Sought.{Sought}
 use Rattle.cgx_walk.specs.declared.Sought.the-variants.{Forged, Ended, Known}
-use Rattle.cgx_walk.specs.Walk.{answerMeant, Left, Located, StepMade, SoughtIs, Met, takenBy}
+use Rattle.cgx_walk.specs.Walk.{started, startOf, answerMeant, Left, Located, StepMade, SoughtIs, Met, takenBy}
 use Rattle.cgx_walk.proofs.Answers.{sought-forged, sought-ended, sought-known, sought-made, moved, known-made}
 use Rattle.cgx_walk.proofs.Views.{readable, view-is}
 use Rattle.cgx_words.specs.Words.{placeWords, placeOf}
@@ -92,3 +94,11 @@ module _ (f p₀ v₀ : List ℕ) {c : Cursor} (e : c ≡ cursorOf (placeOf p₀
 -- a start that is ready is the cursor of the place that C is given
 pub ready-from : {c : Cursor} (p : PlainPlace) (s : WalkStarted) → Begun s → s ≡ Ready c → placeFrom p ≡ placeIn c → Ready (cursorOf (placeFrom p)) ≡ s
 ready-from p s b q e = ap Ready (ap cursorOf e ∙ sym (subst Begun q b)) ∙ sym q
+
+pub begun : (f : List ℕ) {s : WalkStarted} → s ≡ startOf f → Begun s
+unfolding startOf
+begun f e = subst Begun (sym e) (one (opening f))
+  where
+    one : (n : ℕ) → Begun (started n)
+    one zero = ap cursorOf (sym first-in)
+    one (suc n) = tt

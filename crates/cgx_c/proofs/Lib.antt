@@ -1,3 +1,2 @@
--- `Steps`: where a step goes on. `Calls`: what a call does, told by plain structs.
-pub mod Steps
+-- `Calls`: what a call does, told by plain structs.
 pub mod Calls

@@ -7,7 +7,6 @@ use cgx_answers::PlainShown;
 use cgx_answers::PlainStart;
 use cgx_answers::PlainStep;
 use cgx_answers::PlainVerdict;
-use cgx_answers::leave;
 use cgx_answers::plain_box;
 use cgx_answers::plain_extent;
 use cgx_answers::plain_made;
@@ -15,6 +14,7 @@ use cgx_answers::plain_point;
 use cgx_answers::plain_shown;
 use cgx_answers::plain_started;
 use cgx_answers::plain_verdict;
+use cgx_answers::step_over;
 use cgx_check::check;
 use cgx_extent::extent;
 use cgx_kinds::Repeat;
@@ -27,9 +27,7 @@ use cgx_lists::text_inside;
 use cgx_normal::normal_form;
 use cgx_view_words::ViewWords;
 use cgx_walk::start;
-use cgx_walk::step;
 use cgx_words::PlaceWords;
-use cgx_words::place_of;
 ghost use mathlib.Core.Path.{_≡_};
 ghost use mathlib.Core.Bool.{true};
 ghost use Prim.Native.Nat.{_≤_};
@@ -65,7 +63,7 @@ pub extern "C" fn cgx_start(file: &[u8]) -> PlainStart
 pub extern "C" fn cgx_step(file: &[u8], place: &mut PlaceWords, view: &mut ViewWords) -> PlainStep
     ensures { λ r. ⌜ StepLent (now (file .entry)) (now (place .entry)) (now (view .entry)) r (now (place .exit)) (now (view .exit)) ⌝ }
 {
-    leave(step(file, place_of(place)), place, view)
+    step_over(file, place, view)
 }
 
 #[no_mangle]

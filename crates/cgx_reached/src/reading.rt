@@ -4,12 +4,12 @@ use crate::printing::quoted;
 use crate::printing::show_place;
 use crate::printing::show_refusal;
 use crate::printing::then_size;
+use cgx_cursor::Cursor;
 use cgx_kinds::Fields;
 use cgx_lists::text_bytes;
 use cgx_reader::read_next;
 use cgx_reader::read_on;
 use cgx_spec::Offset;
-use cgx_spec::Place;
 use cgx_walk::Outcome;
 use cgx_walk::Started;
 use cgx_walk::start;
@@ -22,7 +22,7 @@ pub fn show_reading(file: &[u8]) {
 }
 
 // A record takes at least a byte, so that there are enough turns for each record and the end.
-fn read_from(file: &[u8], first: Place) {
+fn read_from(file: &[u8], first: Cursor) {
     let mut place = first;
     let mut turns = file.len();
     while turns > 0 {
@@ -40,11 +40,11 @@ fn read_from(file: &[u8], first: Place) {
 // Where a reader is after a step, and whether it was given a record.
 struct Stepped {
     more: bool,
-    place: Place,
+    place: Cursor,
 }
 
 // One step of a reader at this place.
-fn show_step(file: &[u8], place: Place) -> Stepped {
+fn show_step(file: &[u8], place: Cursor) -> Stepped {
     print(b"peek");
     show_outcome(file, read_next(file, place));
     let moved = read_on(file, place);

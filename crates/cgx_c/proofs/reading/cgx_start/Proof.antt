@@ -1,5 +1,6 @@
--- The struct stands for the answer of the call.
+-- The struct means the answer of the call.
 use mathlib.Core.Path.{_∙_}
+use Rattle.cgx_answers.proofs.Lent.{begun}
 use borrow.Author.Needs.{needs}
 use Rattle.cgx_c.proofs.reading.cgx_start.Statement.{statement}
 use Rattle.cgx_c.proofs.reading.cgx_start.Tie as tie
@@ -8,7 +9,7 @@ start-requires : tie.Need-start-requires
 start-requires c κs = search needs
 
 plain-started-requires : tie.Need-plain-started-requires
-plain-started-requires c κs = search needs
+plain-started-requires c κs = begun (c .before .before .args .file .now) (c .start .ensures)
 
 returns : tie.Need-returns
 returns c = (c .plain-started .ensures .0 ∙ c .before .start .ensures, c .plain-started .ensures .1)
