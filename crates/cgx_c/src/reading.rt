@@ -99,7 +99,7 @@ pub extern "C" fn cgx_normal_form(file: &[u8], out: &mut [u8]) -> PlainMade
 
 // ---- questions about a layer and a cell
 
-// 0 where a good LAYER stands at the offset, else 16.
+// 0 where a good LAYER is at the offset, else 16.
 #[no_mangle]
 pub extern "C" fn cgx_layer_at(file: &[u8], at: usize) -> u8
     ensures { λ r. ⌜ r ≡ layerAnswer (now (file .entry)) at ⌝ }

@@ -14,7 +14,7 @@ pub fn show_names(file: &[u8]) {
     show_name(file, n);
 }
 
-// Where no good LAYER stands, nothing is said unless a name is shown.
+// Where there is no good LAYER, nothing is said unless a name is shown.
 fn show_name(file: &[u8], at: usize) {
     let name = layer_name(file, at, b"unnamed");
     let answer = layer_at(file, at);

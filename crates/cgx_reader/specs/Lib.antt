@@ -1,2 +1,2 @@
--- Where a reader stands.
+-- Where a reader is.
 pub mod Reading

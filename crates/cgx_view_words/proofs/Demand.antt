@@ -1,18 +1,14 @@
 -- What is proved of the words of a view, from the law that they fit and the law of stores. Assumes nothing.
 use mathlib.Core.List.{List, _++_}
-use mathlib.Core.Option.{some}
 use mathlib.Core.Path.{_≡_, refl, ap, _∙_}
 use Prim.Native.Nat.{ℕ, _+_}
 use native.Mathlib.Omega.{arith}
 use lib.ListN.{length, take, drop}
 use lib.Seq.{take-at, drop-at}
-use Rattle.cgx_spec.specs.declared.Kind.{Kind}
-use Rattle.cgx_spec.specs.declared.Kind.the-variants as kinds
-use Rattle.cgx_spec.specs.Kinds.{kindOf}
 use Rattle.cgx_kinds.specs.declared.View.{View}
 use Rattle.cgx_put.specs.Put.{put}
 use Rattle.cgx_put.proofs.Puts.{put-is}
-use Rattle.cgx_view_words.specs.ViewWords.{kindByte, viewWords}
+use Rattle.cgx_view_words.specs.ViewWords.{viewWords}
 use Rattle.cgx_view_words.specs.Demand.{ViewWordsDemand}
 use Rattle.cgx_view_words.proofs.Stored.{view-fits}
 
@@ -28,19 +24,5 @@ stored w v e = ap (take (length (viewWords v))) (at-first w v e) ∙ take-at (vi
 others : (w : List ℕ) (v : View) → length w ≡ 22 → drop (length (viewWords v)) (put w 0 (viewWords v)) ≡ drop (length (viewWords v)) w
 others w v e = ap (drop (length (viewWords v))) (at-first w v e) ∙ drop-at (viewWords v) (drop (length (viewWords v)) w) (length (viewWords v)) refl
 
-kinds-are : (k : Kind) → kindOf (kindByte k) ≡ some k
-unfolding kindOf
-kinds-are kinds.Library = refl
-kinds-are kinds.Struct = refl
-kinds-are kinds.Cprpty = refl
-kinds-are kinds.Property = refl
-kinds-are kinds.Layer = refl
-kinds-are kinds.Box = refl
-kinds-are kinds.Poly = refl
-kinds-are kinds.Wire = refl
-kinds-are kinds.Text = refl
-kinds-are kinds.Sref = refl
-kinds-are kinds.Endlib = refl
-
 pub view-words-demand : ViewWordsDemand
-view-words-demand = record { kinds = kinds-are; fits = view-fits; stored = stored; others = others }
+view-words-demand = record { fits = view-fits; stored = stored; others = others }

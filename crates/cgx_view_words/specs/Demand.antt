@@ -1,18 +1,13 @@
 -- What is proved of a view in a C caller's memory: all of its words are stored there. Statements only.
 use mathlib.Core.List.{List}
 use mathlib.Core.Path.{_≡_}
-use mathlib.Core.Option.{some}
 use Prim.Native.Nat.{ℕ, _≤_}
 use lib.ListN.{length, take, drop}
-use Rattle.cgx_spec.specs.declared.Kind.{Kind}
-use Rattle.cgx_spec.specs.Kinds.{kindOf}
 use Rattle.cgx_kinds.specs.declared.View.{View}
 use Rattle.cgx_put.specs.Put.{put}
-use Rattle.cgx_view_words.specs.ViewWords.{kindByte, viewWords}
+use Rattle.cgx_view_words.specs.ViewWords.{viewWords}
 
 pub record ViewWordsDemand : Type 0 where
-  -- A kind's number is its type byte.
-  pub kinds : (k : Kind) → kindOf (kindByte k) ≡ some k
   -- A `cgx_view` of include/cgx.h, of 22 words, has room for the words of every kind.
   pub fits : (v : View) → length (viewWords v) ≤ 22
   -- So what a step leaves in those 22 words, whatever they held, begins with all the words of the view,

@@ -5,12 +5,12 @@ use Prim.Native.Nat.{ℕ, _+_, _*_, _^_}
 use lib.Ieee.{Float, binary64, isNan, toBits}
 use lib.IntN.{ℤ}
 use Rattle.cgx_spec.specs.declared.Kind.{Kind}
-use Rattle.cgx_spec.specs.declared.Kind.the-variants as kinds
 use Rattle.cgx_spec.specs.declared.Offset.{Offset}
 use Rattle.cgx_spec.specs.declared.Run.{Run}
 use Rattle.cgx_spec.specs.declared.Real.{Real}
 use Rattle.cgx_spec.specs.declared.Real.the-variants.{Exact, Inexact}
 use Rattle.cgx_spec.specs.Numbers.{untwos}
+use Rattle.cgx_spec.specs.Kinds.{typeFor}
 use Rattle.cgx_kinds.specs.declared.Span.{Span}
 use Rattle.cgx_kinds.specs.declared.Name.{Name}
 use Rattle.cgx_kinds.specs.declared.Name.the-variants.{Absent, Present}
@@ -92,23 +92,9 @@ fieldWords (Text t) = pointWord (t .at) ∷ longBits (t .width) ∷ spanWords (t
 fieldWords (Sref s) = pointWord (s .at) ∷ optionalWords (s .angle) ++ optionalWords (s .magnif) ++ arrayWords (s .array) ++ spanWords (s .name)
 fieldWords Endlib = []
 
--- A kind's number in C: its type byte in a file.
-abbrev pub kindByte : Kind → ℕ
-kindByte kinds.Library = 0
-kindByte kinds.Struct = 1
-kindByte kinds.Cprpty = 2
-kindByte kinds.Property = 3
-kindByte kinds.Layer = 4
-kindByte kinds.Box = 5
-kindByte kinds.Poly = 6
-kindByte kinds.Wire = 7
-kindByte kinds.Text = 8
-kindByte kinds.Sref = 9
-kindByte kinds.Endlib = 10
-
--- The kind and the flags are in one word.
+-- The kind, which has the number of its type byte in C too, and the flags are in one word.
 unfoldable pub headWord : Kind → ℕ → ℕ
-headWord k flags = kindByte k + 2 ^ 8 * flags
+headWord k flags = typeFor k + 2 ^ 8 * flags
 
 -- The nine words that every kind has.
 unfoldable pub headWords : Kind → ℕ → ℕ → Offset → Offset → Run → List ℕ

@@ -22,10 +22,11 @@ use cgx_words::first_of;
 ghost use mathlib.Core.Path.{_≡_};
 ghost use mathlib.Core.List.{_∷_};
 ghost use Prim.Native.Nat.{_+_, _*_, _^_, _<_, _≤_};
+ghost use Rattle.cgx_spec.specs.Kinds.{typeFor};
 ghost use Rattle.cgx_put.specs.Put.{put};
 ghost use Rattle.cgx_cursor.specs.Cursors.{offsetIn, runIn};
 ghost use Rattle.cgx_words.specs.Words.{bit as bitOf};
-ghost use Rattle.cgx_view_words.specs.ViewWords.{longBits, shortBits, pairWord, pointWord, dateWord, spanWords, listWords, doubleBits, realWords, optionalWords, arrayWords, layerWord, fieldWords, kindByte, headWord, headWords};
+ghost use Rattle.cgx_view_words.specs.ViewWords.{longBits, shortBits, pairWord, pointWord, dateWord, spanWords, listWords, doubleBits, realWords, optionalWords, arrayWords, layerWord, fieldWords, headWord, headWords};
 
 pub type ViewWords = [u64; 22];
 
@@ -62,7 +63,7 @@ fn head_word(k: Kind, flags: u8) -> u64
 }
 
 fn kind_number(k: Kind) -> u64
-    ensures { λ r. ⌜ r ≡ kindByte k ⌝ }
+    ensures { λ r. ⌜ r ≡ typeFor k ⌝ }
     ensures known { λ r. ⌜ r ≤ 10 ⌝ }
 {
     match k {
