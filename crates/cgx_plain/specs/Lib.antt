@@ -1,2 +1,2 @@
--- What plain places stand for.
+-- What plain places mean.
 pub mod Plain

@@ -1,4 +1,4 @@
--- What places that pass to C stand for. Definitions only.
+-- What places that pass to C mean. Definitions only.
 use mathlib.Core.Bool.{Bool, false, not, _&&_, cond}
 use Prim.Native.Nat.{ℕ}
 use lib.Dec.{eqb}

@@ -1,8 +1,8 @@
-// Places as C has them: structs of plain numbers, since an enum cannot pass a C call. specs/Plain.antt says what each of them stands
-// for; each function here makes one that stands for what it is given.
+// Places as C has them: structs of plain numbers, since an enum cannot pass a C call. specs/Plain.antt says what each of
+// them means.
 pub mod places;
 
-// A real as it stands in a file.
+// A real as a file has it.
 #[repr(C)]
 pub struct PlainEight {
     pub bytes: [u8; 8],

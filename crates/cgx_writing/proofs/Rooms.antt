@@ -66,8 +66,8 @@ after-lacks buf w g n l = omega (arith, put-length buf (offsetOf w) (bytesOf (wr
 
 -- the writer after a taken call is not forged, as the one before it is not
 module _ (buf : List ℕ) (w : Writer) (g : Given) (s : Standing (length buf) (placeOf w)) (t : WellTyped g) (e : broken (rulesOf (contextOf w) g) ≡ none) (l : offsetOf w + size (written g) ≤ length buf) where
-  stands-on : Standing (length (put buf (offsetOf w) (bytesOf (written g)))) (placeOf (writerAfter w g))
-  stands-on =
+  sound-on : Standing (length (put buf (offsetOf w) (bytesOf (written g)))) (placeOf (writerAfter w g))
+  sound-on =
       let c : Good (contextOf w) g = good-call (contextOf w) g t e in
       let v = c .sized .even in
       subst (λ (n : ℕ). Standing n (placeOf (writerAfter w g))) (sym (put-length buf (offsetOf w) (bytesOf (written g)))) (standing-after (length buf) w g s (omega arith) l)
@@ -81,7 +81,7 @@ all-taken (g ∷ gs) buf w h s l =
     let k : offsetOf w + size (written g) ≤ length buf = omega arith in
     let buf' = put buf (offsetOf w) (bytesOf (written g)) in
     let m : offsetOf (writerAfter w g) + total gs ≤ length buf' = after-room buf w g (total gs) (omega arith) in
-    let r = all-taken gs buf' (writerAfter w g) (h .2) (stands-on buf w g s (h .0) (h .1) k) m in
+    let r = all-taken gs buf' (writerAfter w g) (h .2) (sound-on buf w g s (h .0) (h .1) k) m in
     rw (after-taken buf w g gs (takes buf w g s (h .1) k)) (ap (λ (x : List Given). g ∷ x) (r .0), r .1)
 
 -- ---- too little room
@@ -145,7 +145,7 @@ stops-from (g ∷ gs) buf w h s l = one (leb (offsetOf w + size (written g)) (le
     one true q rec =
         let k = leb→le (offsetOf w + size (written g)) (length buf) (true→T q) in
         stops-later buf w g gs (takes buf w g s (h .1) k)
-        (rec (put buf (offsetOf w) (bytesOf (written g))) (writerAfter w g) (h .2) (stands-on buf w g s (h .0) (h .1) k)
+        (rec (put buf (offsetOf w) (bytesOf (written g))) (writerAfter w g) (h .2) (sound-on buf w g s (h .0) (h .1) k)
         (after-lacks buf w g (total gs) (let n = total-cons g gs in omega arith)))
 
 -- ---- from a fresh start
@@ -166,9 +166,9 @@ module _ (buf : List ℕ) (l : 4 ≤ length buf) where
   four-stored : length (put buf 0 header) ≡ length buf
   four-stored = put-length buf 0 header
 
-  stands-first : Standing (length (put buf 0 header)) (placeOf firstWriter)
+  sound-first : Standing (length (put buf 0 header)) (placeOf firstWriter)
   unfolding firstWriter
-  stands-first = let e = four-stored in subst (Standing (length (put buf 0 header))) (sym first-in) (standing-start (length (put buf 0 header)) (omega arith))
+  sound-first = let e = four-stored in subst (Standing (length (put buf 0 header))) (sym first-in) (standing-start (length (put buf 0 header)) (omega arith))
 
   taken-all : (gs : List Given) → Whole firstWriter gs → length (fileOf gs) ≤ length buf → (fromStart buf gs .taken ≡ gs) × (contextOf (fromStart buf gs .writer) .ended ≡ true)
   unfolding fromStart
@@ -176,7 +176,7 @@ module _ (buf : List ℕ) (l : 4 ≤ length buf) where
       let e = four-stored in
       let n = length-file gs in
       let room : offsetOf firstWriter + total gs ≤ length (put buf 0 header) = omega (arith, first-offset) in
-      rw (start-is buf l) (all-taken gs (put buf 0 header) firstWriter h stands-first room)
+      rw (start-is buf l) (all-taken gs (put buf 0 header) firstWriter h sound-first room)
 
   stops : (gs : List Given) → StopsFrom (put buf 0 header) firstWriter gs → Stops buf gs
   unfolding fromStart
@@ -204,4 +204,4 @@ round-trip buf gs h l =
     (r .0, any-calls buf gs four (whole-well gs firstWriter h) (r .1))
 
 pub no-room : (buf : List ℕ) (gs : List Given) → Whole firstWriter gs → 4 ≤ length buf → length buf < length (fileOf gs) → Stops buf gs
-no-room buf gs h l r = stops buf l gs (stops-from gs (put buf 0 header) firstWriter h (stands-first buf l) (lacks-all buf l gs r))
+no-room buf gs h l r = stops buf l gs (stops-from gs (put buf 0 header) firstWriter h (sound-first buf l) (lacks-all buf l gs r))

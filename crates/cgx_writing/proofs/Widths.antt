@@ -1,4 +1,4 @@
--- The bytes that an item takes, as the code counts them: so the size of a record, and the stores of its items one behind the other. Assumes nothing.
+-- The bytes that an item takes, as the code counts them: so the size of a record, and the stores of its items one after the other. Assumes nothing.
 use mathlib.Core.Path.{_≡_, refl, sym, ap, ap₂, _∙_}
 use mathlib.Core.List.{List, [], _∷_, _++_, append-nil, append-assoc}
 use Prim.Native.Nat.{ℕ, _+_, _*_, _/_, _%_}
@@ -66,7 +66,7 @@ module _ (owner : Owner) (number : ℤ) (t : List ℕ) where
 
 -- ---- the stores of a record
 
--- Items stored one behind the other, from k bytes behind `at` on.
+-- Items stored one after the other, from k bytes after `at` on.
 abbrev pub putItems : List ℕ → ℕ → ℕ → List Item → List ℕ
 putItems l at k [] = l
 putItems l at k (i ∷ is) = putItems (put l (at + k) (stored i)) at (k + width i) is

@@ -6,18 +6,18 @@ use Rattle.cgx_spec.specs.Kinds.{angle, magnif, array}
 use Rattle.cgx_writing.specs.declared.Grid.{Grid}
 use Rattle.cgx_writing.specs.Given.{eight, long, point, ifSet, stored}
 
--- What is stored of fields that stand only where their flag is set: an angle or a magnif; columns, rows and the two points.
+-- What is stored of fields that are there only where their flag is set: an angle or a magnif; columns, rows and the two points.
 abbrev pub realIf : Bool → List ℕ → List ℕ
-realIf stands real = stored (ifSet stands (eight real))
+realIf set real = stored (ifSet set (eight real))
 
 abbrev pub gridIf : Bool → Grid → List ℕ
-gridIf stands grid =
-    stored (ifSet stands (long (grid .cols)))
-    ++ (stored (ifSet stands (long (grid .rows))) ++ (stored (ifSet stands (point (grid .across))) ++ stored (ifSet stands (point (grid .up)))))
+gridIf set grid =
+    stored (ifSet set (long (grid .cols)))
+    ++ (stored (ifSet set (long (grid .rows))) ++ (stored (ifSet set (point (grid .across))) ++ stored (ifSet set (point (grid .up)))))
 
 -- Their bytes.
 abbrev pub widthIf : Bool → ℕ → ℕ
-widthIf stands width = cond stands width 0
+widthIf set width = cond set width 0
 
 -- Header, x and y, then what its flags tell of, then the name with its zero bytes.
 unfoldable pub srefSize : ℕ → ℕ → ℕ

@@ -1,4 +1,4 @@
--- Asked only where the array stands.
+-- Asked only where the array is there.
 use Rattle.cgx_plans.proofs.Srefs.{grid-on}
 use borrow.Author.Needs.{needs}
 use Rattle.cgx_plans.proofs.grid_good.Statement.{statement}

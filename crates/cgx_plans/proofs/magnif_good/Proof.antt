@@ -1,4 +1,4 @@
--- Asked only where the magnif stands.
+-- Asked only where the magnif is there.
 use Rattle.cgx_plans.proofs.Srefs.{scale-on}
 use borrow.Author.Needs.{needs}
 use Rattle.cgx_plans.proofs.magnif_good.Statement.{statement}

@@ -1,4 +1,4 @@
--- Where the array stands, its six longs are stored, and else nothing is.
+-- Where the array is there, its six longs are stored, and else nothing is.
 use mathlib.Core.Path.{ap, _∙_}
 use mathlib.Core.List.{List}
 use Prim.Native.Nat.{ℕ, _+_}

@@ -1,4 +1,4 @@
--- Where the real stands, its eight normal bytes are stored, and else nothing is.
+-- Where the real is there, its eight normal bytes are stored, and else nothing is.
 use mathlib.Core.Path.{ap, _∙_}
 use Prim.Native.Nat.{ℕ, _+_}
 use native.Mathlib.Omega.{arith}
