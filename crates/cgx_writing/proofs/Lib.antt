@@ -15,6 +15,5 @@ pub mod Calling
 pub mod Ranges
 pub mod Specimens
 pub mod Promises
--- `Polys`, `Srefs`: the sizes of these two.
-pub mod Polys
+-- `Srefs`: the size of an SREF.
 pub mod Srefs

@@ -16,7 +16,7 @@ use Rattle.cgx_kinds.specs.declared.Point.{Point}
 use Rattle.cgx_writing.specs.declared.EndStyle.{EndStyle}
 use Rattle.cgx_kinds.specs.declared.LayerNo.{LayerNo}
 use Rattle.cgx_kinds.specs.declared.DataType.{DataType}
-use Rattle.cgx_writing.specs.Given.{stored, written, givenLayer, givenBox, givenWire, givenText, givenEndlib}
+use Rattle.cgx_writing.specs.Given.{stored, written, givenLayer, givenBox, givenPoly, givenWire, givenText, givenEndlib}
 
 -- ---- LAYER without a name
 
@@ -31,6 +31,13 @@ module _ (zs : List ℤ) where
   pub box-size : 4 + 4 * length zs ≡ size (written (givenBox zs))
   unfolding written givenBox stored
   box-size = let e = length-longs zs in let f = length-append (longsBytes zs) [] in omega arith
+
+-- ---- POLY
+
+module _ (zs : List ℤ) where
+  pub poly-size : 4 + 4 * length zs ≡ size (written (givenPoly zs))
+  unfolding written givenPoly stored
+  poly-size = let e = length-longs zs in let f = length-append (longsBytes zs) [] in omega arith
 
 -- ---- LAYER with a name
 

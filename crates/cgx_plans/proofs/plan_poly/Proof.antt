@@ -1,7 +1,7 @@
 -- The rules of a POLY and its size.
 use mathlib.Core.Path.{_∙_}
 use Rattle.cgx_writing.specs.Given.{givenPoly}
-use Rattle.cgx_writing.proofs.Polys.{poly-size}
+use Rattle.cgx_writing.proofs.Sizes.{poly-size}
 use Rattle.cgx_plans.proofs.Order.{plan-is}
 use borrow.Author.Needs.{needs}
 use Rattle.cgx_plans.proofs.plan_poly.Statement.{statement}

@@ -3,7 +3,7 @@ use mathlib.Core.Path.{_∙_}
 use Prim.Native.Nat.{_+_}
 use Rattle.cgx_put.specs.Put.{longsBytes}
 use Rattle.cgx_writing.specs.Given.{stored, givenPoly}
-use Rattle.cgx_writing.proofs.Polys.{poly-size}
+use Rattle.cgx_writing.proofs.Sizes.{poly-size}
 use Rattle.cgx_writing.proofs.Widths.{record-put}
 use Rattle.cgx_stores.proofs.Chain.{onto}
 use borrow.Author.Needs.{needs}

@@ -1,6 +1,6 @@
 -- The answer is the plan's; where it is taken, the store is that of the record.
 use Prim.Native.Nat.{_+_, _*_}
-use Rattle.cgx_writing.proofs.Polys.{poly-size}
+use Rattle.cgx_writing.proofs.Sizes.{poly-size}
 use native.Mathlib.Omega.{arith}
 use lib.ListN.{length}
 use Rattle.cgx_writing.specs.Given.{givenPoly}
