@@ -143,17 +143,17 @@ pub fn store_sref(
     buf: &mut [u8],
     at: usize,
     flags: u8,
-    p: Point,
+    origin: Point,
     angle: &[u8; 8],
     magnif: &[u8; 8],
     grid: Grid,
     name: &[u8],
 )
     requires { ⌜ (at + srefSize flags (length (now name)) ≤ length (now buf)) × (srefSize flags (length (now name)) ≤ maxSize) ⌝ }
-    ensures { λ _. ⌜ now (buf .exit) ≡ put (now (buf .entry)) at (bytesOf (written (givenSref flags p (now (angle .entry)) (now (magnif .entry)) grid (now (name .entry))))) ⌝ }
+    ensures { λ _. ⌜ now (buf .exit) ≡ put (now (buf .entry)) at (bytesOf (written (givenSref flags origin (now (angle .entry)) (now (magnif .entry)) grid (now (name .entry))))) ⌝ }
 {
-    let x = p.x;
-    let y = p.y;
+    let x = origin.x;
+    let y = origin.y;
     put_header(buf, at, Kind::Sref, flags, sref_size(flags, name));
     put_long(buf, at + 4, x);
     put_long(buf, at + 8, y);

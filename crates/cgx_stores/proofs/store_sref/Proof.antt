@@ -75,9 +75,9 @@ returns c =
     (onto (r2 .result) (gridIf (array fl) (a .grid)) (g .ensures .1)
     (onto (r1 .result) (realIf (magnif fl) (a .magnif .now)) (r2 .ensures .1)
     (onto (a .at + 12) (realIf (angle fl) (a .angle .now)) (r1 .ensures .1)
-    (onto (a .at + 8) (longBytes (a .p .y)) (c .before .before .before .before .before .before .before .before .before .before .before .before .before .before .before .before .before .before .put-long2 .ensures ∙ ap (λ (z : ℤ). put (c .before .before .before .before .before .before .before .before .before .before .before .before .before .before .before .before .before .before .before .before .before .before .put-long .last .0) (a .at + 8) (longBytes z)) (toZ-ofZ w32 (a .p .y) (record { sfits = c .before .before .before .before .before .before .before .before .before .before .before .before .before .before .before .before .before .before .before .before .before .before .before .before .before .before .before .before .before .struct-told2 .given .1 .0 .1 })))
-    (onto (a .at + 4) (longBytes (a .p .x)) (c .before .before .before .before .before .before .before .before .before .before .before .before .before .before .before .before .before .before .before .before .before .before .put-long .ensures ∙ ap (λ (z : ℤ). put (c .before .before .before .before .before .before .before .before .before .before .before .before .before .before .before .before .before .before .before .before .before .before .before .before .before .before .put-header .last .0) (a .at + 4) (longBytes z)) (toZ-ofZ w32 (a .p .x) (record { sfits = c .before .before .before .before .before .before .before .before .before .before .before .before .before .before .before .before .before .before .before .before .before .before .before .before .before .before .before .before .before .before .struct-told .given .0 .1 }))) h)))))
-    ∙ sref-store fl (a .p) (a .angle .now) (a .magnif .now) (a .grid) (a .name .now) (a .buf .now) (a .at) (r1 .result) (r2 .result) (g .result) (r1 .ensures .0) (r2 .ensures .0) (g .ensures .0)
+    (onto (a .at + 8) (longBytes (a .origin .y)) (c .before .before .before .before .before .before .before .before .before .before .before .before .before .before .before .before .before .before .put-long2 .ensures ∙ ap (λ (z : ℤ). put (c .before .before .before .before .before .before .before .before .before .before .before .before .before .before .before .before .before .before .before .before .before .before .put-long .last .0) (a .at + 8) (longBytes z)) (toZ-ofZ w32 (a .origin .y) (record { sfits = c .before .before .before .before .before .before .before .before .before .before .before .before .before .before .before .before .before .before .before .before .before .before .before .before .before .before .before .before .before .struct-told2 .given .1 .0 .1 })))
+    (onto (a .at + 4) (longBytes (a .origin .x)) (c .before .before .before .before .before .before .before .before .before .before .before .before .before .before .before .before .before .before .before .before .before .before .put-long .ensures ∙ ap (λ (z : ℤ). put (c .before .before .before .before .before .before .before .before .before .before .before .before .before .before .before .before .before .before .before .before .before .before .before .before .before .before .put-header .last .0) (a .at + 4) (longBytes z)) (toZ-ofZ w32 (a .origin .x) (record { sfits = c .before .before .before .before .before .before .before .before .before .before .before .before .before .before .before .before .before .before .before .before .before .before .before .before .before .before .before .before .before .before .struct-told .given .0 .1 }))) h)))))
+    ∙ sref-store fl (a .origin) (a .angle .now) (a .magnif .now) (a .grid) (a .name .now) (a .buf .now) (a .at) (r1 .result) (r2 .result) (g .result) (r1 .ensures .0) (r2 .ensures .0) (g .ensures .0)
 
 pub store-sref-spec : {M : Type 1} → statement M
 store-sref-spec = tie.close (tie.spec sref-size-requires put-header-requires add-put-long put-long-requires add-put-long-2 put-long-requires-2 add-put-real-if put-real-if-requires put-real-if-requires-2 put-grid-if-requires put-text-requires same-length returns)
