@@ -1,8 +1,8 @@
 -- The laws of an SREF's body: eight cases of its flags. Assumes nothing.
 use mathlib.Core.Path.{_≡_, refl, sym, ap, ap₂, _∙_, subst}
-use mathlib.Core.Bool.{Bool, true, false, not, cond, _&&_, _||_}
+use mathlib.Core.Bool.{Bool, true, false, not, _&&_, _||_}
 use mathlib.Core.List.{List, [], _∷_}
-use Prim.Native.Nat.{ℕ, _+_, _-_, _%_, _≤_, _<_}
+use Prim.Native.Nat.{ℕ, _+_, _-_, _≤_, _<_}
 use native.Mathlib.Omega.{arith}
 use borrow.Author.Needs.{needs}
 use lib.Dec.{T}
@@ -14,6 +14,8 @@ use Rattle.cgx_spec.specs.Fields.{Field, real, positive, string, width, every, 
 use Rattle.cgx_spec.specs.Kinds.{layout, onlyIf, long, count, point, angle, magnif, array}
 use Rattle.cgx_spec.specs.Records.{rule, broken}
 use Rattle.cgx_spec.specs.declared.Kind.the-variants.{Sref}
+use Rattle.cgx_sref.specs.declared.SrefLayout.{SrefLayout}
+use Rattle.cgx_sref.specs.Layouts.{magnifOffset, arrayOffset, nameOffset, srefLayout}
 use Rattle.cgx_bodies.specs.Bodies.{numberOr0, bodyFault, Body}
 use Rattle.cgx_spec.proofs.Cuts.{cutAt, Room, sane}
 use Rattle.cgx_bodies.proofs.Faults.{fault-8, fault-on, alone, pair}
@@ -21,14 +23,15 @@ use Rattle.cgx_bodies.proofs.Faults.{fault-8, fault-on, alone, pair}
 abbrev fieldsOf : Bool → Bool → Bool → List Field
 fieldsOf a m r = long ∷ long ∷ onlyIf a real ∷ onlyIf m positive ∷ onlyIf r count ∷ onlyIf r count ∷ onlyIf r point ∷ onlyIf r point ∷ string ∷ []
 
+-- in bytes from the body's first, which is the record's fifth
 abbrev magnifAt : Bool → ℕ
-magnifAt a = cond a 16 8
+magnifAt a = magnifOffset a - 4
 
 abbrev gridAt : Bool → Bool → ℕ
-gridAt a m = cond m (magnifAt a + 8) (magnifAt a)
+gridAt a m = arrayOffset a m - 4
 
 abbrev nameAt : Bool → Bool → Bool → ℕ
-nameAt a m r = cond r (gridAt a m + 24) (gridAt a m)
+nameAt a m r = nameOffset a m r - 4
 
 all-sane : (a m r : Bool) → T (every sane (fieldsOf a m r))
 all-sane true true true = tt
@@ -114,57 +117,34 @@ module _ (b : List ℕ) where
   keeps-10 false false true = pair {a = counted 8} {b = counted 12} refl refl
   keeps-10 false false false = refl
 
--- with the offsets that code has computed
-module _ (fl : ℕ) (b : List ℕ) (y : Body b) {m g n : ℕ} (em : m ≡ cond (angle fl) 16 8) (eg : g ≡ cond (magnif fl) (m + 8) m) (en : n ≡ cond (array fl) (g + 24) g) where
-  eg' : g ≡ gridAt (angle fl) (magnif fl)
-  eg' = eg ∙ ap (λ (k : ℕ). cond (magnif fl) (k + 8) k) em
+-- with the layout that code has worked out
+module _ (fl : ℕ) (b : List ℕ) (y : Body b) {l : SrefLayout} (is : l ≡ srefLayout fl) where
+  abbrev a : Bool
+  a = angle fl
 
-  en' : n ≡ nameAt (angle fl) (magnif fl) (array fl)
-  en' = en ∙ ap (λ (k : ℕ). cond (array fl) (k + 24) k) eg'
+  abbrev m : Bool
+  m = magnif fl
 
-  pub sref-8 : length b < n + 2 → 8 ≡ bodyFault Sref fl b
+  abbrev g : Bool
+  g = array fl
+
+  pub sref-8 : length b < l .name - 4 + 2 → 8 ≡ bodyFault Sref fl b
   unfolding layout
-  sref-8 h = fault-8 Sref fl b (all-sane (angle fl) (magnif fl) (array fl)) (no-room b y (angle fl) (magnif fl) (array fl) (subst (λ (k : ℕ). length b < k + 2) en' h))
+  sref-8 h = fault-8 Sref fl b (all-sane a m g) (no-room b y a m g (subst (λ (x : SrefLayout). length b < x .name - 4 + 2) is h))
 
-  pub sref-on : n + 2 ≤ length b → {s1 s2 s3 : Bool} {r : ℕ}
+  pub sref-on : l .name - 4 + 2 ≤ length b → {s1 s2 s3 : Bool} {r : ℕ}
       → r ≡ numberOr0 (broken (rule 9 true ∷ rule 10 (s1 && s2) ∷ rule 11 s3 ∷ rule 12 true ∷ []))
-      → s1 ≡ (not (magnif fl) || positiveReal ((take 8 (drop m b))))
-      → s2 ≡ (not (array fl) || (ones (longsOf (take 4 (drop g b))) && ones (longsOf (take 4 (drop (g + 4) b)))))
-      → s3 ≡ goodString (take (length b - n) (drop n b)) → r ≡ bodyFault Sref fl b
+      → s1 ≡ (not (l .scaled) || positiveReal ((take 8 (drop (l .magnif - 4) b))))
+      → s2 ≡ (not (l .repeated) || (ones (longsOf (take 4 (drop (l .array - 4) b))) && ones (longsOf (take 4 (drop (l .array - 4 + 4) b)))))
+      → s3 ≡ goodString (take (length b - (l .name - 4)) (drop (l .name - 4) b)) → r ≡ bodyFault Sref fl b
   unfolding layout
   sref-on h {s1} {s2} {s3} e e1 e2 e3 =
-      fault-on Sref fl b true (s1 && s2) s3 true (all-sane (angle fl) (magnif fl) (array fl))
-      (room b y (angle fl) (magnif fl) (array fl) (subst (λ (k : ℕ). k + 2 ≤ length b) en' h)) e
-      (keeps-9 b (angle fl) (magnif fl) (array fl))
-      (keeps-10 b (angle fl) (magnif fl) (array fl) ∙ sym (ap₂ _&&_ (e1 ∙ ap (λ (k : ℕ). not (magnif fl) || scaled b k) em) (e2 ∙ ap (λ (k : ℕ). not (array fl) || (counted b k && counted b (k + 4))) eg')))
-      (keeps-11 b (angle fl) (magnif fl) (array fl) ∙ sym (e3 ∙ ap (λ (k : ℕ). goodString (take (length b - k) (drop k b))) en'))
-      (keeps-12 b (angle fl) (magnif fl) (array fl))
-
--- the offsets are small, and the name comes after all the others
-pub record Places (m r : Bool) (x g n : ℕ) : Type 0 where
-  pub second : x ≤ 16
-  pub third : g ≤ 24
-  pub last : n ≤ 48
-  pub even : n % 2 ≡ 0
-  pub scale-in : m ≡ true → x + 8 ≤ n
-  pub grid-in : r ≡ true → g + 24 ≤ n
-
-never : {A : Type 0} → false ≡ true → A
-never q = absurd (subst (λ (v : Bool). T (not v)) q tt)
-
-pub places : (a m r : Bool) {x g n : ℕ} → x ≡ cond a 16 8 → g ≡ cond m (x + 8) x → n ≡ cond r (g + 24) g → Places m r x g n
-places true true true e f h = record { second = omega arith; third = omega arith; last = omega arith; even = omega arith; scale-in = λ q. omega arith; grid-in = λ q. omega arith }
-places true true false e f h = record { second = omega arith; third = omega arith; last = omega arith; even = omega arith; scale-in = λ q. omega arith; grid-in = never }
-places true false true e f h = record { second = omega arith; third = omega arith; last = omega arith; even = omega arith; scale-in = never; grid-in = λ q. omega arith }
-places true false false e f h = record { second = omega arith; third = omega arith; last = omega arith; even = omega arith; scale-in = never; grid-in = never }
-places false true true e f h = record { second = omega arith; third = omega arith; last = omega arith; even = omega arith; scale-in = λ q. omega arith; grid-in = λ q. omega arith }
-places false true false e f h = record { second = omega arith; third = omega arith; last = omega arith; even = omega arith; scale-in = λ q. omega arith; grid-in = never }
-places false false true e f h = record { second = omega arith; third = omega arith; last = omega arith; even = omega arith; scale-in = never; grid-in = λ q. omega arith }
-places false false false e f h = record { second = omega arith; third = omega arith; last = omega arith; even = omega arith; scale-in = never; grid-in = never }
-
-pub after-le : (v : Bool) (at w : ℕ) {x : ℕ} → x ≡ cond v (at + w) at → x ≤ at + w
-after-le true at w e = omega arith
-after-le false at w e = omega arith
+      fault-on Sref fl b true (s1 && s2) s3 true (all-sane a m g)
+      (room b y a m g (subst (λ (x : SrefLayout). x .name - 4 + 2 ≤ length b) is h)) e
+      (keeps-9 b a m g)
+      (keeps-10 b a m g ∙ sym (ap₂ _&&_ (e1 ∙ ap (λ (x : SrefLayout). not (x .scaled) || scaled b (x .magnif - 4)) is) (e2 ∙ ap (λ (x : SrefLayout). not (x .repeated) || (counted b (x .array - 4) && counted b (x .array - 4 + 4))) is)))
+      (keeps-11 b a m g ∙ sym (e3 ∙ ap (λ (x : SrefLayout). goodString (take (length b - (x .name - 4)) (drop (x .name - 4) b))) is))
+      (keeps-12 b a m g)
 
 -- a field that is present
 module _ (b : List ℕ) (at : ℕ) {s : Bool} (t : s ≡ true) where

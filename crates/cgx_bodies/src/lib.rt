@@ -1,6 +1,6 @@
 // The rules 8 to 12 of a record's body, a function a kind. Each answers the number of the first rule that is broken, or 0.
 ghost use mathlib.Core.Path.{_≡_};
-ghost use mathlib.Core.Bool.{true, cond, not, _&&_, _||_};
+ghost use mathlib.Core.Bool.{true, not, _&&_, _||_};
 ghost use mathlib.Core.List.{[], _∷_};
 ghost use Prim.Native.Nat.{_+_, _≤_};
 ghost use lib.ListN.{length, take, drop};
@@ -29,6 +29,7 @@ use cgx_kinds::Text;
 use cgx_kinds::Wire;
 use cgx_reals::positive_bytes;
 use cgx_spec::Kind;
+use cgx_sref::sref_layout;
 
 // ---- the eleven kinds
 
@@ -168,17 +169,15 @@ pub fn sref_fault(b: &[u8], fl: u8) -> u8
     requires { ⌜ Body (now b) ⌝ }
     ensures { λ r. ⌜ r ≡ bodyFault KSref fl (now (b .entry)) ⌝ }
 {
-    let angle = fl % 2 == 1;
-    let magnif = fl / 2 % 2 == 1;
-    let array = fl / 8 % 2 == 1;
-    let magnif_at = after(angle, Sref::POINT_SIZE, Sref::REAL_SIZE);
-    let grid_at = after(magnif, magnif_at, Sref::REAL_SIZE);
-    let name_at = after(array, grid_at, Sref::ARRAY_SIZE);
+    let l = sref_layout(fl);
+    let magnif_at = l.magnif - Kind::HEADER_SIZE;
+    let grid_at = l.array - Kind::HEADER_SIZE;
+    let name_at = l.name - Kind::HEADER_SIZE;
     if b.len() < name_at + Sref::MIN_NAME {
         return 8;
     }
-    let scale = magnif_good(b, magnif_at, magnif);
-    let grid = grid_good(b, grid_at, array);
+    let scale = magnif_good(b, magnif_at, l.scaled);
+    let grid = grid_good(b, grid_at, l.repeated);
     let name = string_good(&b[name_at..]);
     first_broken(true, scale & grid, name, true)
 }
@@ -215,19 +214,11 @@ fn first_broken(dates: bool, numbers: bool, texts: bool, ring: bool) -> u8
     0
 }
 
-// Where the next field of an SREF begins: w bytes on, if this one is present.
-fn after(stands: bool, at: usize, w: usize) -> usize
-    requires { ⌜ (at ≤ 100) × (w ≤ 100) ⌝ }
-    ensures { λ r. ⌜ r ≡ cond stands (at + w) at ⌝ }
+fn magnif_good(b: &[u8], at: usize, there: bool) -> bool
+    requires { ⌜ (there ≡ true → at + 8 ≤ length (now b)) ⌝ }
+    ensures { λ r. ⌜ r ≡ (not there || positiveReal (take 8 (drop at (now (b .entry))))) ⌝ }
 {
-    if stands { at + w } else { at }
-}
-
-fn magnif_good(b: &[u8], at: usize, stands: bool) -> bool
-    requires { ⌜ (stands ≡ true → at + 8 ≤ length (now b)) ⌝ }
-    ensures { λ r. ⌜ r ≡ (not stands || positiveReal (take 8 (drop at (now (b .entry))))) ⌝ }
-{
-    if stands {
+    if there {
         let end = at + Sref::REAL_SIZE;
         return positive_bytes(&b[at..end]);
     }
@@ -235,11 +226,11 @@ fn magnif_good(b: &[u8], at: usize, stands: bool) -> bool
 }
 
 // Columns and rows.
-fn grid_good(b: &[u8], at: usize, stands: bool) -> bool
-    requires { ⌜ (stands ≡ true → at + 24 ≤ length (now b)) ⌝ }
-    ensures { λ r. ⌜ r ≡ (not stands || (ones (longsOf (take 4 (drop at (now (b .entry))))) && ones (longsOf (take 4 (drop (at + 4) (now (b .entry))))))) ⌝ }
+fn grid_good(b: &[u8], at: usize, there: bool) -> bool
+    requires { ⌜ (there ≡ true → at + 24 ≤ length (now b)) ⌝ }
+    ensures { λ r. ⌜ r ≡ (not there || (ones (longsOf (take 4 (drop at (now (b .entry))))) && ones (longsOf (take 4 (drop (at + 4) (now (b .entry))))))) ⌝ }
 {
-    if stands {
+    if there {
         let middle = at + 4;
         let end = at + 8;
         let cols = count_good(&b[at..middle]);

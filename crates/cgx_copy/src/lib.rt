@@ -11,6 +11,7 @@ ghost use Rattle.cgx_copy.specs.Copy.{realsIn, realWidth, realsEnd, real
 use cgx_put::put_bytes;
 use cgx_reals::normal_bytes;
 use cgx_spec::Kind;
+use cgx_sref::sref_layout;
 
 // Copies the record of `size` bytes at `at`, of kind k, to the buffer from `to` on.
 pub fn copy_record(f: &[u8], k: Kind, at: usize, size: usize, out: &mut [u8], to: usize)
@@ -87,11 +88,14 @@ fn reals_in(k: Kind, fl: u8) -> Reals
             first: true,
             second: true,
         },
-        Kind::Sref => Reals {
-            skip: 8,
-            first: fl % 2 == 1,
-            second: fl / 2 % 2 == 1,
-        },
+        Kind::Sref => {
+            let l = sref_layout(fl);
+            Reals {
+                skip: 8,
+                first: l.turned,
+                second: l.scaled,
+            }
+        }
         _ => Reals {
             skip: 0,
             first: false,
@@ -113,17 +117,17 @@ fn put_reals(reals: Reals, body: &[u8], out: &mut [u8], to: usize)
     put_real(second, body, next, out, to + next);
 }
 
-fn real_width(stands: bool) -> usize
-    ensures { λ r. ⌜ r ≡ realWidth stands ⌝ }
+fn real_width(there: bool) -> usize
+    ensures { λ r. ⌜ r ≡ realWidth there ⌝ }
 {
-    if stands { 8 } else { 0 }
+    if there { 8 } else { 0 }
 }
 
-fn put_real(stands: bool, body: &[u8], at: usize, out: &mut [u8], to: usize)
-    requires { ⌜ (at + realWidth stands ≤ length (now body)) × (to + realWidth stands ≤ length (now out)) ⌝ }
-    ensures { λ _. ⌜ now (out .exit) ≡ put (now (out .entry)) to (realIf stands (drop at (now (body .entry)))) ⌝ }
+fn put_real(there: bool, body: &[u8], at: usize, out: &mut [u8], to: usize)
+    requires { ⌜ (at + realWidth there ≤ length (now body)) × (to + realWidth there ≤ length (now out)) ⌝ }
+    ensures { λ _. ⌜ now (out .exit) ≡ put (now (out .entry)) to (realIf there (drop at (now (body .entry)))) ⌝ }
 {
-    if stands {
+    if there {
         let end = at + 8;
         let real = normal_bytes(&body[at..end]);
         put_bytes(out, to, &real);

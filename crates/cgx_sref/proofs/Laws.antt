@@ -1,7 +1,7 @@
 -- Where the fields of an SREF begin. Assumes nothing.
-use mathlib.Core.Path.{_≡_, ap, _∙_, subst}
+use mathlib.Core.Path.{_≡_, refl, ap, _∙_, subst}
 use mathlib.Core.Bool.{Bool, true, false, not, cond}
-use Prim.Native.Nat.{ℕ, _+_, _≤_}
+use Prim.Native.Nat.{ℕ, _+_, _%_, _≤_}
 use native.Mathlib.Omega.{arith}
 use lib.Dec.{T}
 use Rattle.cgx_spec.specs.Kinds.{angle, magnif, array}
@@ -12,9 +12,9 @@ never : {A : Type 0} → false ≡ true → A
 never q = absurd (subst (λ (v : Bool). T (not v)) q tt)
 
 -- where the next field begins, w bytes after o or at o
-pub after-is : (v : Bool) (o w : ℕ) {x : ℕ} → x ≡ cond v (o + w) o → (o ≤ x) × (x ≤ o + w) × (v ≡ true → o + w ≤ x)
-after-is true o w e = (omega arith, omega arith, λ q. omega arith)
-after-is false o w e = (omega arith, omega arith, never)
+pub after-is : (v : Bool) (o w : ℕ) {x : ℕ} → x ≡ cond v (o + w) o → (o ≤ x) × (x ≤ o + w) × (v ≡ true → o + w ≤ x) × (o % 2 ≡ 0 → w % 2 ≡ 0 → x % 2 ≡ 0)
+after-is true o w e = (omega arith, omega arith, (λ q. omega arith), λ p q. omega arith)
+after-is false o w e = (omega arith, omega arith, never, λ p q. omega arith)
 
 module _ (fl x g n : ℕ) (ex : x ≡ cond (angle fl) 20 12) (eg : g ≡ cond (magnif fl) (x + 8) x) (en : n ≡ cond (array fl) (g + 24) g) where
   abbrev made : SrefLayout
@@ -36,6 +36,7 @@ module _ (fl x g n : ℕ) (ex : x ≡ cond (angle fl) 20 12) (eg : g ≡ cond (m
         second = omega arith;
         third = omega arith;
         last = omega arith;
+        even = r .3 (m .3 (a .3 refl refl) refl) refl;
         angle-in = λ q. omega (arith, a .2 q);
         magnif-in = λ q. omega (arith, m .2 q);
         array-in = λ q. omega (arith, r .2 q);

@@ -1,7 +1,7 @@
 -- The layout of an SREF by its flags: after the four bytes of the header x and y, then angle, magnif, array and name, each of them right after what is there before it. Definitions only.
 use mathlib.Core.Path.{_≡_}
 use mathlib.Core.Bool.{Bool, true, cond}
-use Prim.Native.Nat.{ℕ, _+_, _≤_}
+use Prim.Native.Nat.{ℕ, _+_, _%_, _≤_}
 use Rattle.cgx_spec.specs.Kinds.{angle, magnif, array}
 use Rattle.cgx_sref.specs.declared.SrefLayout.{SrefLayout}
 
@@ -31,6 +31,7 @@ pub record Laid (l : SrefLayout) : Type 0 where
   pub second : l .magnif ≤ l .array
   pub third : l .array ≤ l .name
   pub last : l .name ≤ 52
+  pub even : l .name % 2 ≡ 0
   pub angle-in : l .turned ≡ true → 20 ≤ l .magnif
   pub magnif-in : l .scaled ≡ true → l .magnif + 8 ≤ l .array
   pub array-in : l .repeated ≡ true → l .array + 24 ≤ l .name

@@ -35,16 +35,19 @@ enum-told c = search needs
 enum-told-2 : tie.Need-enum-told-2
 enum-told-2 c = search needs
 
+sref-layout-requires : tie.Need-sref-layout-requires
+sref-layout-requires c κs = search needs
+
 returns : tie.Need-returns
 unfolding realsIn
 returns c = rw (c .enum-told .given .1)
 
 returns-2 : tie.Need-returns-2
 unfolding realsIn
-returns-2 c = rw (c .enum-told2 .given .1)
+returns-2 c = let e = c .sref-layout .ensures .0 in rw (c .before .enum-told2 .given .1) (λ i. record { skip = 8; first = e i .turned; second = e i .scaled })
 
 returns-3 : tie.Need-returns-3
 returns-3 c = others (c .before .args .k) (c .before .args .fl) (c .match .keys3)
 
 pub reals-in-spec : {M : Type 1} → statement M
-reals-in-spec = tie.close (tie.spec enum-told enum-told-2 returns returns-2 returns-3)
+reals-in-spec = tie.close (tie.spec enum-told enum-told-2 sref-layout-requires returns returns-2 returns-3)
