@@ -23,9 +23,10 @@ use Rattle.cgx_walk.specs.declared.Outcome.{Outcome}
 use Rattle.cgx_walk.specs.declared.Outcome.the-variants.{Record, Done, Refused}
 use Rattle.cgx_walk.specs.declared.Sought.{Sought}
 use Rattle.cgx_walk.specs.declared.Sought.the-variants.{Forged, Ended, Known}
-use Rattle.cgx_walk.specs.Walk.{started, startOf, answerMeant, Left, Located, StepMade, SoughtIs, Met, takenBy}
+use Rattle.cgx_walk.specs.Walk.{started, startOf, answerMeant, Left, Located, StepMade, SoughtIs, Met}
+use Rattle.cgx_read_views.specs.RecordViews.{takenBy}
 use Rattle.cgx_walk.proofs.Answers.{sought-forged, sought-ended, sought-known, sought-made, moved, known-made}
-use Rattle.cgx_walk.proofs.Views.{readable, view-is}
+use Rattle.cgx_read_views.proofs.Views.{readable, view-is}
 use Rattle.cgx_words.specs.Words.{placeWords, placeOf}
 use Rattle.cgx_words.proofs.Places.{place-back}
 use Rattle.cgx_view_words.specs.ViewWords.{headWords, viewWords}

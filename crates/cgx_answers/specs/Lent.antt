@@ -12,7 +12,8 @@ use Rattle.cgx_spec.specs.Order.{next}
 use Rattle.cgx_kinds.specs.declared.View.{View}
 use Rattle.cgx_walk.specs.declared.Outcome.{Outcome}
 use Rattle.cgx_walk.specs.declared.Outcome.the-variants.{Record, Done, Refused}
-use Rattle.cgx_walk.specs.Walk.{StepMade, Viewed}
+use Rattle.cgx_read_views.specs.RecordViews.{Viewed}
+use Rattle.cgx_walk.specs.Walk.{StepMade}
 use Rattle.cgx_cursor.specs.declared.State.{State}
 use Rattle.cgx_cursor.specs.declared.Cursor.{Cursor}
 use Rattle.cgx_cursor.specs.Cursors.{contextIn, placeIn, stateOf, cursorOf}

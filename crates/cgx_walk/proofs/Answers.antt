@@ -37,7 +37,8 @@ use Rattle.cgx_walk.specs.declared.Outcome.{Outcome}
 use Rattle.cgx_walk.specs.declared.Outcome.the-variants.{Record, Refused}
 use Rattle.cgx_walk.specs.declared.Sought.{Sought}
 use Rattle.cgx_walk.specs.declared.Sought.the-variants.{Forged, Ended, Known as Seen}
-use Rattle.cgx_walk.specs.Walk.{started, answerMeant, Left, Located, StepMade, placedAt, foundMeant, SoughtIs, Viewed}
+use Rattle.cgx_read_views.specs.RecordViews.{Viewed}
+use Rattle.cgx_walk.specs.Walk.{started, answerMeant, Left, Located, StepMade, placedAt, foundMeant, SoughtIs}
 
 -- an unknown record is skipped, a known one is seen
 abbrev either : Option Kind → Answer → Placed → Answer

@@ -1,16 +1,13 @@
 -- What the answers of a walk mean, in the terms of the format: this paper's numbers and values for each case. Definitions only.
-use mathlib.Core.Bool.{cond}
 use mathlib.Core.List.{List}
 use mathlib.Core.Path.{_≡_}
 use mathlib.Core.Option.{some}
 use Prim.Native.Nat.{ℕ, zero, suc, _+_, _<_, _≤_}
-use lib.ListN.{getD}
 use Rattle.cgx_spec.specs.declared.Context.{Context}
 use Rattle.cgx_spec.specs.declared.Kind.{Kind}
 use Rattle.cgx_spec.specs.declared.Offset.the-variants.{Nowhere}
 use Rattle.cgx_spec.specs.Files.{opening}
-use Rattle.cgx_spec.specs.Kinds.{kindOf}
-use Rattle.cgx_spec.specs.Order.{isObject, next}
+use Rattle.cgx_spec.specs.Order.{next}
 use Rattle.cgx_spec.specs.Records.{Placed, viewOf}
 use Rattle.cgx_spec.specs.Walking.{firstPlace, Answer, seen, done, refusedAt, ending, stepOf, recAt}
 use Rattle.cgx_kinds.specs.Meant.{fieldsKind, viewMeant}
@@ -19,7 +16,7 @@ use Rattle.cgx_cursor.specs.declared.State.{State}
 use Rattle.cgx_cursor.specs.declared.Cursor.{Cursor}
 use Rattle.cgx_cursor.specs.Cursors.{contextIn, placeIn, cursorOf}
 use Rattle.cgx_views.specs.Views.{FieldsAt}
-use Rattle.cgx_steps.specs.Steps.{Good}
+use Rattle.cgx_read_views.specs.RecordViews.{Found}
 use Rattle.cgx_walk.specs.declared.Started.{Started}
 use Rattle.cgx_walk.specs.declared.Started.the-variants.{Ready, Refused as NotBegun}
 use Rattle.cgx_walk.specs.declared.Outcome.{Outcome}
@@ -62,13 +59,7 @@ pub record StepMade (f : List ℕ) (c : Cursor) (r : Outcome) : Type 0 where
 
 -- ---- a known record that a step has found
 
--- A good record of n bytes, of kind k and with flags fl, is at an offset.
-pub record Found (f : List ℕ) (c : Context) (at n : ℕ) (k : Kind) (fl : ℕ) : Type 0 where
-  pub good : Good f c at n
-  pub kind-is : kindOf (getD f (at + 2) 0) ≡ some k
-  pub flags-is : fl ≡ getD f (at + 3) 0
-
--- Its offset is one that a record can have, and one more PROPERTY can be counted.
+-- A good record of a known kind at an offset that a record can have, after a state in which one more PROPERTY can be counted.
 pub record Met (f : List ℕ) (s : State) (at n : ℕ) (k : Kind) (fl : ℕ) : Type 0 where
   pub found : Found f (contextIn s) at n k fl
   pub low : 0 < at
@@ -86,14 +77,3 @@ abbrev pub SoughtIs : List ℕ → Cursor → Sought → Type 0
 SoughtIs f c Forged = refusedAt 16 Nowhere ≡ stepOf f (placeIn c)
 SoughtIs f c (Ended v) = ending v ≡ stepOf f (placeIn c)
 SoughtIs f c (Known at n k fl) = Met f (c .state) at n k fl × (foundMeant f (contextIn (c .state)) at n k ≡ stepOf f (placeIn c))
-
--- What is promised of the view of a record of n bytes from byte b of the memory m on, which is byte `at` of the file.
-pub record Viewed (m : List ℕ) (b : ℕ) (c : Context) (at n : ℕ) (k : Kind) (v : View) : Type 0 where
-  pub means : viewMeant m v ≡ viewOf k (record { at = at; context = c; rec = recAt m b n })
-  pub kind-is : fieldsKind (v .fields) ≡ v .kind
-  pub offset-is : v .at ≡ at
-  pub located : FieldsAt (v .flags) m b (b + n) (v .fields)
-
--- Of the PROPERTY records that await an object only an object takes any.
-abbrev pub takenBy : Kind → ℕ → ℕ
-takenBy k count = cond (isObject k) count 0

@@ -1,12 +1,10 @@
 // A walk over a file: from the start, one known record at a step.
 ghost use mathlib.Core.Path.{_≡_};
-ghost use mathlib.Core.Option.{some};
 ghost use mathlib.Core.List.{List};
 ghost use Prim.Native.Nat.{ℕ};
-ghost use Rattle.cgx_spec.specs.Order.{next};
 ghost use Rattle.cgx_spec.specs.Walking.{ending};
-ghost use Rattle.cgx_cursor.specs.Cursors.{offsetIn, runIn, contextIn};
-ghost use Rattle.cgx_walk.specs.Walk.{startOf, answerMeant, Left, Located, StepMade, SoughtIs, Found, Met, Viewed, foundMeant, takenBy};
+ghost use Rattle.cgx_cursor.specs.Cursors.{contextIn};
+ghost use Rattle.cgx_walk.specs.Walk.{startOf, answerMeant, Left, Located, StepMade, SoughtIs, Met, foundMeant};
 use cgx_cursor::Cursor;
 use cgx_cursor::State;
 use cgx_cursor::is_forged;
@@ -14,13 +12,12 @@ use cgx_cursor::next_state;
 use cgx_headers::RecordType;
 use cgx_headers::opening_fault;
 use cgx_kinds::View;
+use cgx_read_views::view_at;
 use cgx_spec::Kind;
 use cgx_spec::Offset;
-use cgx_spec::Run;
 use cgx_spec::Verdict;
 use cgx_steps::Stepped;
 use cgx_steps::step_at;
-use cgx_views::fields_of;
 
 // What starting a walk answers.
 pub enum Started {
@@ -155,72 +152,4 @@ fn known(file: &[u8], s: State, at: usize, n: usize, k: Kind, flags: u8) -> Outc
             state: after,
         },
     )
-}
-
-// The good record of n bytes whose first is byte `from` of this memory, and byte `at` of the file: texts and lists count from that memory, the view's own
-// offset, its cell, layer and run from the file.
-pub fn view_at(
-    m: &[u8],
-    from: usize,
-    at: usize,
-    n: usize,
-    k: Kind,
-    flags: u8,
-    s: State,
-    after: State,
-) -> View
-    requires { ⌜ Found (now m) (contextIn s) from n k flags × (contextIn after ≡ next (contextIn s) at (some k)) ⌝ }
-    ensures { λ r. ⌜ Viewed (now (m .entry)) from (contextIn s) at n k r ⌝ }
-{
-    let fields = fields_of(m, k, flags, from, n);
-    let cell = offset_of(after.cell);
-    let layer = offset_of(after.layer);
-    let count = taken(k, s.count);
-    let run = run_of(s.first, count);
-    View {
-        kind: k,
-        flags,
-        fields,
-        at,
-        cell,
-        layer,
-        run,
-    }
-}
-
-fn offset_of(n: usize) -> Offset
-    ensures { λ r. ⌜ r ≡ offsetIn n ⌝ }
-{
-    if n == 0 {
-        return Offset::Nowhere;
-    }
-    Offset::At(n)
-}
-
-fn run_of(first: usize, count: usize) -> Run
-    ensures { λ r. ⌜ r ≡ runIn first count ⌝ }
-{
-    if count == 0 {
-        return Run::Empty;
-    }
-    Run::Of { first, count }
-}
-
-// How many PROPERTY records a record takes, of those that await an object.
-pub fn taken(k: Kind, count: usize) -> usize
-    ensures { λ r. ⌜ r ≡ takenBy k count ⌝ }
-{
-    match k {
-        Kind::Library => 0,
-        Kind::Struct => 0,
-        Kind::Cprpty => 0,
-        Kind::Property => 0,
-        Kind::Layer => 0,
-        Kind::Box => count,
-        Kind::Poly => count,
-        Kind::Wire => count,
-        Kind::Text => count,
-        Kind::Sref => count,
-        Kind::Endlib => 0,
-    }
 }

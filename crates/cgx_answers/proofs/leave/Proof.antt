@@ -1,5 +1,5 @@
 -- The head from the state, the fields as they are read, and the place after the record.
-use Rattle.cgx_walk.proofs.Views.{readable}
+use Rattle.cgx_read_views.proofs.Views.{readable}
 use Rattle.cgx_answers.proofs.Lent.{record-lent}
 use borrow.Author.Needs.{needs}
 use Rattle.cgx_answers.proofs.leave.Statement.{statement}

@@ -21,7 +21,7 @@ use Rattle.cgx_spec.proofs.Normal.{rules-kept}
 use Rattle.cgx_cursor.specs.declared.State.{State}
 use Rattle.cgx_cursor.specs.Cursors.{offsetIn, runIn, contextIn}
 use Rattle.cgx_views.specs.Views.{Readable}
-use Rattle.cgx_walk.specs.Walk.{Found, takenBy}
+use Rattle.cgx_read_views.specs.RecordViews.{Found, takenBy}
 
 module _ {f : List ℕ} {c : Context} {at n : ℕ} {k : Kind} {fl : ℕ} (h : Found f c at n k fl) where
   pub readable : Readable k fl f at n

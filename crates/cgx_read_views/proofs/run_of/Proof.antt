@@ -4,8 +4,8 @@ use native.Mathlib.Omega.{arith}
 use Prim.Native.Nat.{_<_}
 use Rattle.cgx_cursor.specs.Cursors.{runIn}
 use Rattle.cgx_cursor.proofs.Laws.{run-in}
-use Rattle.cgx_walk.proofs.run_of.Statement.{statement}
-use Rattle.cgx_walk.proofs.run_of.Tie as tie
+use Rattle.cgx_read_views.proofs.run_of.Statement.{statement}
+use Rattle.cgx_read_views.proofs.run_of.Tie as tie
 
 returns : tie.Need-returns
 unfolding runIn

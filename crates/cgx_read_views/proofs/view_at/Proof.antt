@@ -2,10 +2,10 @@
 use mathlib.Core.Path.{refl, ap, _∙_}
 use Prim.Native.Nat.{ℕ}
 use Rattle.cgx_cursor.specs.Cursors.{runIn}
-use Rattle.cgx_walk.proofs.Views.{readable, view-is}
+use Rattle.cgx_read_views.proofs.Views.{readable, view-is}
 use borrow.Author.Needs.{needs}
-use Rattle.cgx_walk.proofs.view_at.Statement.{statement}
-use Rattle.cgx_walk.proofs.view_at.Tie as tie
+use Rattle.cgx_read_views.proofs.view_at.Statement.{statement}
+use Rattle.cgx_read_views.proofs.view_at.Tie as tie
 
 fields-of-requires : tie.Need-fields-of-requires
 fields-of-requires c κs = readable (c .before .pre .0)

@@ -4,8 +4,8 @@ use native.Mathlib.Omega.{arith}
 use Prim.Native.Nat.{_<_}
 use Rattle.cgx_cursor.specs.Cursors.{offsetIn}
 use Rattle.cgx_cursor.proofs.Laws.{at-in}
-use Rattle.cgx_walk.proofs.offset_of.Statement.{statement}
-use Rattle.cgx_walk.proofs.offset_of.Tie as tie
+use Rattle.cgx_read_views.proofs.offset_of.Statement.{statement}
+use Rattle.cgx_read_views.proofs.offset_of.Tie as tie
 
 returns : tie.Need-returns
 unfolding offsetIn

@@ -1,0 +1,2 @@
+-- What is promised of the view of a record.
+pub mod RecordViews
