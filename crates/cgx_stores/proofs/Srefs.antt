@@ -14,9 +14,8 @@ use Rattle.cgx_spec.specs.declared.Kind.the-variants.{Sref}
 use Rattle.cgx_spec.specs.Numbers.{longBytes}
 use Rattle.cgx_spec.specs.Reals.{normalReal}
 use Rattle.cgx_spec.specs.Strings.{padded}
-use Rattle.cgx_spec.specs.Kinds.{angle, magnif, array, flagsOf}
+use Rattle.cgx_spec.specs.Kinds.{angle, magnif, array, flagsOf, typeFor}
 use Rattle.cgx_spec.specs.Records.{bytesOf}
-use Rattle.cgx_spec.specs.Restated.{typeByte}
 use Rattle.cgx_put.specs.Put.{put, longsBytes}
 use Rattle.cgx_put.proofs.Puts.{put-nil, put-next}
 use Rattle.cgx_kinds.specs.declared.Point.{Point}
@@ -64,7 +63,7 @@ module _ (g : Grid) (c : mag (g .cols) < 2147483648) (r : mag (g .rows) < 214748
 
 -- size, type and flags
 abbrev heads : ℕ → ℕ → List ℕ
-heads size fl = size / 256 ∷ size % 256 ∷ typeByte Sref ∷ flagsOf Sref fl ∷ []
+heads size fl = size / 256 ∷ size % 256 ∷ typeFor Sref ∷ flagsOf Sref fl ∷ []
 
 regroup : (h x y a m c r p q t : List ℕ) → (((((h ++ x) ++ y) ++ a) ++ m) ++ (c ++ (r ++ (p ++ q)))) ++ t ≡ h ++ (x ++ (y ++ (a ++ (m ++ (c ++ (r ++ (p ++ (q ++ (t ++ [])))))))))
 regroup h x y a m c r p q t = simp (append-assoc, append-nil)

@@ -6,9 +6,8 @@ ghost use Prim.Native.Nat.{_+_, _*_, _/_, _%_, _≤_};
 ghost use lib.ListN.{length};
 ghost use Rattle.cgx_spec.specs.Numbers.{shortBytes};
 ghost use Rattle.cgx_spec.specs.Reals.{normalReal};
-ghost use Rattle.cgx_spec.specs.Kinds.{flagsOf};
+ghost use Rattle.cgx_spec.specs.Kinds.{flagsOf, typeFor};
 ghost use Rattle.cgx_spec.specs.Records.{bytesOf};
-ghost use Rattle.cgx_spec.specs.Restated.{typeByte};
 ghost use Rattle.cgx_put.specs.Put.{put};
 ghost use Rattle.cgx_writing.specs.Given.{dateBytes, written, givenLibrary, givenStruct, givenOwned, givenLayer, givenBox, givenPoly, givenWire, givenText, givenSref, givenEndlib};
 ghost use Rattle.cgx_writing.specs.Srefs.{realIf, gridIf, widthIf, srefSize};
@@ -173,7 +172,7 @@ pub fn store_endlib(buf: &mut [u8], at: usize)
 // Size, type, and the flags that are meant.
 fn put_header(buf: &mut [u8], at: usize, k: Kind, flags: u8, size: usize)
     requires { ⌜ (at + 4 ≤ length (now buf)) × (size ≤ maxSize) ⌝ }
-    ensures { λ _. ⌜ now (buf .exit) ≡ put (now (buf .entry)) at (size / 256 ∷ size % 256 ∷ typeByte k ∷ flagsOf k flags ∷ []) ⌝ }
+    ensures { λ _. ⌜ now (buf .exit) ≡ put (now (buf .entry)) at (size / 256 ∷ size % 256 ∷ typeFor k ∷ flagsOf k flags ∷ []) ⌝ }
 {
     let kind = type_byte(k);
     let meant = flags_meant(k, flags);
@@ -182,7 +181,7 @@ fn put_header(buf: &mut [u8], at: usize, k: Kind, flags: u8, size: usize)
 }
 
 fn type_byte(k: Kind) -> u8
-    ensures { λ r. ⌜ r ≡ typeByte k ⌝ }
+    ensures { λ r. ⌜ r ≡ typeFor k ⌝ }
 {
     match k {
         Kind::Library => 0,

@@ -11,16 +11,15 @@ use Rattle.cgx_spec.specs.declared.Kind.{Kind}
 use Rattle.cgx_spec.specs.declared.Kind.the-variants.{Library, Struct, Cprpty, Property, Layer, Box, Poly, Wire, Text, Sref, Endlib}
 use Rattle.cgx_spec.specs.declared.Context.{Context}
 use Rattle.cgx_spec.specs.Fields.{Field, pieces, lengthsFit, keeps, values, normalBytes, join}
-use Rattle.cgx_spec.specs.Kinds.{kindOf, Flags, meaningless, version, upTo, orientation, flagsFor, allows, goodFlags, flagsOf, layout}
+use Rattle.cgx_spec.specs.Kinds.{kindOf, Flags, meaningless, version, upTo, orientation, flagsFor, allows, goodFlags, flagsOf, layout, typeFor}
 use Rattle.cgx_spec.specs.Kinds
 use Rattle.cgx_spec.specs.Order.{allowed}
 use Rattle.cgx_spec.specs.Records.{size, piecesOf, meaningOf, normalOf, Rule, rule, broken, rules, faultOf}
-use Rattle.cgx_spec.specs.Restated.{typeByte}
 use Rattle.cgx_spec.specs.Walking.{forged}
 use Rattle.cgx_spec.specs.Written.{Sized}
 use Rattle.cgx_spec.proofs.Lists.{T→true, true→T}
 use Rattle.cgx_spec.proofs.Normal.{flags-again, flags-byte}
-use Rattle.cgx_spec.proofs.Agreement.{agreement}
+use Rattle.cgx_spec.proofs.Agreement.{kind-for}
 use Rattle.cgx_writing.specs.declared.Writer.{Writer}
 use Rattle.cgx_writing.specs.Given.{Given, stored, fieldsOf, enoughGiven, keepsGiven, meant, written}
 use Rattle.cgx_writing.specs.Typed.{WellTyped}
@@ -81,8 +80,7 @@ layout-flags Endlib fl = refl
 
 -- ---- the record of a well-typed call
 
-type-small : (k : Kind) → typeByte k < 256
-unfolding typeByte
+type-small : (k : Kind) → typeFor k < 256
 type-small Library = omega arith
 type-small Struct = omega arith
 type-small Cprpty = omega arith
@@ -97,7 +95,7 @@ type-small Endlib = omega arith
 
 pub kind-written : (g : Given) → kindOf (written g .type) ≡ some (g .kind)
 unfolding written
-kind-written g = agreement .types (g .kind)
+kind-written g = kind-for (g .kind)
 
 module _ (g : Given) (w : WellTyped g) where
   cut-up : piecesOf (g .kind) (written g) ≡ paired (fieldsOf g) (g .items)
@@ -156,7 +154,7 @@ module _ (g : Given) (w : WellTyped g) where
   normal-given =
       let f = flags-again (g .kind) (g .flags) (w .flags) in
       let b = ap normalBytes cut-up ∙ normals-law (fieldsOf g) (g .items) (w .items) in
-      λ i. record { type = typeByte (g .kind); flags = f i; body = b i }
+      λ i. record { type = typeFor (g .kind); flags = f i; body = b i }
 
 pub same-rules : (c : Context) (g : Given) → WellTyped g → keepsGiven 11 g ≡ true → size (written g) ≤ maxSize → broken (rulesOf c g) ≡ cond (c .ended) (some 6) (faultOf c (written g))
 same-rules c g w t l = same-number g w (true→T t) c l

@@ -17,7 +17,6 @@ use Rattle.cgx_spec.specs.Fields.{ruleOf, inOrder}
 use Rattle.cgx_spec.specs.Kinds.{kindOf, goodFlags, layout}
 use Rattle.cgx_spec.specs.Order.{start, allowed}
 use Rattle.cgx_spec.specs.Records.{size, bytesOf, broken, contextAfter}
-use Rattle.cgx_spec.specs.Restated.{typeByte}
 use Rattle.cgx_spec.specs.Walking.{firstPlace, placeAfter}
 use Rattle.cgx_spec.specs.Specimens.{drawingNormal}
 use Rattle.cgx_spec.proofs.Lists.{¬T→false, Bytes-cons, Bytes-nil}
@@ -33,11 +32,11 @@ use Rattle.cgx_writing.specs.Demands.{Whole, Specimens}
 use Rattle.cgx_writing.proofs.Calling.{calls-promises}
 
 drawing-file : fileOf drawingCalls ≡ drawingNormal
-unfolding fileOf bytesOf written stored dateBytes untwos shortBytes longBytes longsBytes normalReal wordNormal negative exponent mantissa pack lower minus padded typeByte givenLibrary givenStruct givenLayer givenBox givenEndlib
+unfolding fileOf bytesOf written stored dateBytes untwos shortBytes longBytes longsBytes normalReal wordNormal negative exponent mantissa pack lower minus padded givenLibrary givenStruct givenLayer givenBox givenEndlib
 drawing-file = refl
 
 drawing-whole : Whole firstWriter drawingCalls
-unfolding firstWriter firstPlace start writerAfter placeAfter placeIn contextIn offsetIn runIn cursorOf stateOf contextAfter kindOf broken rulesOf allowed enoughGiven keepsGiven groups enough noZero meets goodList goodItem layout ruleOf inOrder calendar positiveReal positive wordValue written stored dateBytes untwos shortBytes longBytes longsBytes normalReal wordNormal negative exponent mantissa pack lower minus padded typeByte givenLibrary givenStruct givenLayer givenBox givenEndlib
+unfolding firstWriter firstPlace start writerAfter placeAfter placeIn contextIn offsetIn runIn cursorOf stateOf contextAfter kindOf broken rulesOf allowed enoughGiven keepsGiven groups enough noZero meets goodList goodItem layout ruleOf inOrder calendar positiveReal positive wordValue written stored dateBytes untwos shortBytes longBytes longsBytes normalReal wordNormal negative exponent mantissa pack lower minus padded givenLibrary givenStruct givenLayer givenBox givenEndlib
 drawing-whole =
     let m = Bytes-cons 0x6d [] (omega arith) Bytes-nil in
     let a = Bytes-cons 0x61 [] (omega arith) Bytes-nil in

@@ -7,9 +7,8 @@ use lib.IntN.{ℤ}
 use lib.ListN.{length, length-append}
 use Rattle.cgx_spec.specs.Numbers.{shortBytes}
 use Rattle.cgx_spec.specs.Fields.{join}
-use Rattle.cgx_spec.specs.Kinds.{flagsOf}
+use Rattle.cgx_spec.specs.Kinds.{flagsOf, typeFor}
 use Rattle.cgx_spec.specs.Records.{size, bytesOf}
-use Rattle.cgx_spec.specs.Restated.{typeByte}
 use Rattle.cgx_spec.proofs.RealLaws.{normalReal-length}
 use Rattle.cgx_put.specs.Put.{put}
 use Rattle.cgx_put.proofs.Puts.{put-next, length-longs}
@@ -81,8 +80,8 @@ put-items l at k vs (i ∷ is) e =
 
 -- size, type and flags, then the items, are the record's bytes
 pub record-put : (g : Given) (l : List ℕ) (at n : ℕ) → n ≡ size (written g)
-    → putItems (put l at (n / 256 ∷ n % 256 ∷ typeByte (g .kind) ∷ flagsOf (g .kind) (g .flags) ∷ [])) at 4 (g .items) ≡ put l at (bytesOf (written g))
+    → putItems (put l at (n / 256 ∷ n % 256 ∷ typeFor (g .kind) ∷ flagsOf (g .kind) (g .flags) ∷ [])) at 4 (g .items) ≡ put l at (bytesOf (written g))
 unfolding bytesOf written
 record-put g l at n e =
-    let head : ℕ → List ℕ = λ k. k / 256 ∷ k % 256 ∷ typeByte (g .kind) ∷ flagsOf (g .kind) (g .flags) ∷ [] in
+    let head : ℕ → List ℕ = λ k. k / 256 ∷ k % 256 ∷ typeFor (g .kind) ∷ flagsOf (g .kind) (g .flags) ∷ [] in
     put-items l at 4 (head n) (g .items) refl ∙ ap (λ (k : ℕ). put l at (head k ++ join stored (g .items))) e

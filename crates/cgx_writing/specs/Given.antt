@@ -14,9 +14,8 @@ use Rattle.cgx_spec.specs.Reals.{realOf, positiveReal, normalReal}
 use Rattle.cgx_spec.specs.Dates.{calendar}
 use Rattle.cgx_spec.specs.Strings.{padded}
 use Rattle.cgx_spec.specs.Fields.{any, counts, ordered, closed, Test, Field, real, positive, date, short, longs, string, optional, absent, Value, missing, exactly, numbers, text, ones, inOrder, ruleOf, join}
-use Rattle.cgx_spec.specs.Kinds.{flagsOf, layout, angle, magnif, array}
+use Rattle.cgx_spec.specs.Kinds.{flagsOf, layout, angle, magnif, array, typeFor}
 use Rattle.cgx_spec.specs.Records.{Rec, Meaning}
-use Rattle.cgx_spec.specs.Restated.{typeByte}
 use Rattle.cgx_kinds.specs.declared.Date.{Date}
 use Rattle.cgx_kinds.specs.declared.LayerNo.{LayerNo}
 use Rattle.cgx_kinds.specs.declared.DataType.{DataType}
@@ -151,7 +150,7 @@ meant g = record { kind = g .kind; flags = flagsOf (g .kind) (g .flags); fields 
 
 -- The record that is written.
 unfoldable pub written : Given → Rec
-written g = record { type = typeByte (g .kind); flags = flagsOf (g .kind) (g .flags); body = join stored (g .items) }
+written g = record { type = typeFor (g .kind); flags = flagsOf (g .kind) (g .flags); body = join stored (g .items) }
 
 -- ---- the calls of each kind: what they give
 

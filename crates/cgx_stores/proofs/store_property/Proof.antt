@@ -9,8 +9,7 @@ use mir.ValLaws.{toZ-ofZ}
 use Rattle.cgx_spec.specs.Numbers.{longBytes}
 use Rattle.cgx_spec.specs.declared.Kind.{Kind}
 use Rattle.cgx_spec.specs.Strings.{padded}
-use Rattle.cgx_spec.specs.Kinds.{flagsOf}
-use Rattle.cgx_spec.specs.Restated.{typeByte}
+use Rattle.cgx_spec.specs.Kinds.{flagsOf, typeFor}
 use Rattle.cgx_put.specs.Put.{put, longsBytes}
 use Rattle.cgx_put.proofs.Padding.{length-padded}
 use Rattle.cgx_writing.specs.Given.{stored, givenOwned}
@@ -49,7 +48,7 @@ unfolding givenOwned stored longsBytes longBytes
 returns c =
     let a = c .before .before .before .before .before .before .before .before .before .before .before .before .before .before .before .before .args in
     let s = c .before .before .before .before .before .before .before .before .before .before .before .property-size .result in
-    let h = c .before .before .before .before .before .before .before .before .before .before .put-header .ensures ∙ ap (λ (k : Kind). put (a .buf .now) (a .at) (s / 256 ∷ s % 256 ∷ typeByte k ∷ flagsOf k 0 ∷ [])) (c .before .before .before .before .before .before .before .before .before .before .before .before .kind .ensures) in
+    let h = c .before .before .before .before .before .before .before .before .before .before .put-header .ensures ∙ ap (λ (k : Kind). put (a .buf .now) (a .at) (s / 256 ∷ s % 256 ∷ typeFor k ∷ flagsOf k 0 ∷ [])) (c .before .before .before .before .before .before .before .before .before .before .before .before .kind .ensures) in
     onto (a .at + 8) (padded (a .value .now)) (c .before .before .put-text .ensures) (onto (a .at + 4) (longBytes (a .number)) (c .before .before .before .before .before .before .put-long .ensures ∙ ap (λ (z : ℤ). put (c .before .before .before .before .before .before .before .before .before .before .put-header .last .0) (a .at + 4) (longBytes z)) (toZ-ofZ w32 (a .number) (c .before .before .before .before .before .before .before .before .before .before .before .before .before .before .before .before .fits .number))) h)
     ∙ record-put (givenOwned (a .owner) (a .number) (a .value .now)) (a .buf .now) (a .at) (c .before .before .before .before .before .before .before .before .before .before .before .property-size .result) (c .before .before .before .before .before .before .before .before .before .before .before .property-size .ensures ∙ owned-size (a .owner) (a .number) (a .value .now))
 

@@ -8,9 +8,8 @@ use mir.Syntax.{w32}
 use mir.ValLaws.{toZ-ofZ}
 use Rattle.cgx_spec.specs.Numbers.{longBytes}
 use Rattle.cgx_spec.specs.declared.Kind.the-variants.{Sref}
-use Rattle.cgx_spec.specs.Kinds.{angle, magnif, array, flagsOf}
+use Rattle.cgx_spec.specs.Kinds.{angle, magnif, array, flagsOf, typeFor}
 use Rattle.cgx_spec.specs.Strings.{padded}
-use Rattle.cgx_spec.specs.Restated.{typeByte}
 use Rattle.cgx_put.specs.Put.{put}
 use Rattle.cgx_put.proofs.Padding.{length-padded}
 use Rattle.cgx_writing.specs.Srefs.{srefSize, realIf, gridIf}
@@ -70,7 +69,7 @@ returns c =
     let r1 = c .before .before .before .before .before .before .before .before .before .before .before .before .before .before .put-real-if in
     let r2 = c .before .before .before .before .before .before .before .before .before .before .put-real-if2 in
     let g = c .before .before .before .before .before .before .put-grid-if in
-    let h = c .before .before .before .before .before .before .before .before .before .before .before .before .before .before .before .before .before .before .before .before .before .before .before .before .before .before .put-header .ensures ∙ ap (λ (k : ℕ). put (a .buf .now) (a .at) (k / 256 ∷ k % 256 ∷ typeByte Sref ∷ flagsOf Sref fl ∷ [])) (c .before .before .before .before .before .before .before .before .before .before .before .before .before .before .before .before .before .before .before .before .before .before .before .before .before .before .before .sref-size .ensures) in
+    let h = c .before .before .before .before .before .before .before .before .before .before .before .before .before .before .before .before .before .before .before .before .before .before .before .before .before .before .put-header .ensures ∙ ap (λ (k : ℕ). put (a .buf .now) (a .at) (k / 256 ∷ k % 256 ∷ typeFor Sref ∷ flagsOf Sref fl ∷ [])) (c .before .before .before .before .before .before .before .before .before .before .before .before .before .before .before .before .before .before .before .before .before .before .before .before .before .before .before .sref-size .ensures) in
     onto (g .result) (padded (a .name .now)) (c .before .before .put-text .ensures)
     (onto (r2 .result) (gridIf (array fl) (a .grid)) (g .ensures .1)
     (onto (r1 .result) (realIf (magnif fl) (a .magnif .now)) (r2 .ensures .1)

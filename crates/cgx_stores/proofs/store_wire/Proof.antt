@@ -7,8 +7,7 @@ use mir.Syntax.{w32}
 use mir.ValLaws.{toZ-ofZ}
 use Rattle.cgx_spec.specs.Numbers.{longBytes}
 use Rattle.cgx_spec.specs.declared.Kind.the-variants.{Wire}
-use Rattle.cgx_spec.specs.Kinds.{flagsOf}
-use Rattle.cgx_spec.specs.Restated.{typeByte}
+use Rattle.cgx_spec.specs.Kinds.{flagsOf, typeFor}
 use Rattle.cgx_put.specs.Put.{put, longsBytes}
 use Rattle.cgx_writing.specs.Given.{stored, givenWire}
 use Rattle.cgx_writing.proofs.Sizes.{wire-size}
@@ -47,7 +46,7 @@ unfolding givenWire stored longsBytes longBytes
 returns c =
     let a = c .before .before .before .before .before .before .before .before .before .before .before .before .before .before .before .args in
     let s = c .before .before .before .before .before .before .before .before .before .before .before .wire-size .result in
-    let h = c .before .before .before .before .before .before .before .before .before .before .put-header .ensures ∙ ap (λ (f : ℕ). put (a .buf .now) (a .at) (s / 256 ∷ s % 256 ∷ typeByte Wire ∷ flagsOf Wire f ∷ [])) (c .before .before .before .before .before .before .before .before .before .before .before .before .flags .ensures) in
+    let h = c .before .before .before .before .before .before .before .before .before .before .put-header .ensures ∙ ap (λ (f : ℕ). put (a .buf .now) (a .at) (s / 256 ∷ s % 256 ∷ typeFor Wire ∷ flagsOf Wire f ∷ [])) (c .before .before .before .before .before .before .before .before .before .before .before .before .flags .ensures) in
     onto (a .at + 8) (longsBytes (a .points .now)) (c .before .before .put-longs .ensures) (onto (a .at + 4) (longBytes (a .width)) (c .before .before .before .before .before .before .put-long .ensures ∙ ap (λ (z : ℤ). put (c .before .before .before .before .before .before .before .before .before .before .put-header .last .0) (a .at + 4) (longBytes z)) (toZ-ofZ w32 (a .width) (c .before .before .before .before .before .before .before .before .before .before .before .before .before .before .before .fits .width))) h)
     ∙ record-put (givenWire (a .style) (a .width) (a .points .now)) (a .buf .now) (a .at) (c .before .before .before .before .before .before .before .before .before .before .before .wire-size .result) (c .before .before .before .before .before .before .before .before .before .before .before .wire-size .ensures ∙ wire-size (a .style) (a .width) (a .points .now))
 
