@@ -1,4 +1,4 @@
--- The struct stands for the answer of the call.
+-- The struct means the answer of the call.
 use mathlib.Core.Path.{sym, _∙_, subst}
 use Rattle.cgx_layers.specs.declared.Shown.{Shown}
 use Rattle.cgx_layers.specs.Layers.{ShownIn}

@@ -1,4 +1,4 @@
--- The struct stands for the answer of the call.
+-- The struct means the answer of the call.
 use mathlib.Core.Path.{_∙_}
 use borrow.Author.Needs.{needs}
 use Rattle.cgx_c.proofs.reading.cgx_point_at.Statement.{statement}
