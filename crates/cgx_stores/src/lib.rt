@@ -176,7 +176,9 @@ fn put_header(buf: &mut [u8], at: usize, k: Kind, flags: u8, size: usize)
 {
     let kind = type_byte(k);
     let meant = flags_meant(k, flags);
-    let header = [(size / 256) as u8, (size % 256) as u8, kind, meant];
+    let high = (size / 256) as u8;
+    let low = (size % 256) as u8;
+    let header = [high, low, kind, meant];
     put_bytes(buf, at, &header);
 }
 

@@ -13,11 +13,11 @@ type-byte-requires c κs = search needs
 flags-meant-requires : tie.Need-flags-meant-requires
 flags-meant-requires c κs = search needs
 
-cast-t10 : tie.Need-cast-t10
-cast-t10 c = search needs
+cast-high : tie.Need-cast-high
+cast-high c = search needs
 
-cast-t12 : tie.Need-cast-t12
-cast-t12 c = search needs
+cast-low : tie.Need-cast-low
+cast-low c = search needs
 
 slice-aggregate-put-bytes : tie.Need-slice-aggregate-put-bytes
 slice-aggregate-put-bytes c = search needs
@@ -34,4 +34,4 @@ returns c =
     c .before .before .put-bytes .ensures ∙ ap₂ (λ (k f : ℕ). put (a .buf .now) (a .at) (a .size / 256 ∷ a .size % 256 ∷ k ∷ f ∷ [])) (c .before .before .before .before .before .before .type-byte .ensures) (c .before .before .before .before .before .flags-meant .ensures)
 
 pub put-header-spec : {M : Type 1} → statement M
-put-header-spec = tie.close (tie.spec type-byte-requires flags-meant-requires cast-t10 cast-t12 slice-aggregate-put-bytes put-bytes-requires same-length returns)
+put-header-spec = tie.close (tie.spec type-byte-requires flags-meant-requires cast-high cast-low slice-aggregate-put-bytes put-bytes-requires same-length returns)
