@@ -1,4 +1,4 @@
-//! The stored vectors hold what the reference says, and `cgx_reached` is run on
+//! The stored vectors hold what the reference says, and `cgx_test_reader` is run on
 //! files of theirs and is to print what the reference says.
 
 use std::fs;
@@ -51,7 +51,7 @@ fn what_is_written_is_read_back() {
 #[test]
 fn what_only_rattle_reaches_is_what_the_reference_says() {
     let cases = cases();
-    let folder = in_project("crates/cgx_reached");
+    let folder = in_project("crates/cgx_test_reader");
     let stored = |name: &str| {
         let path = folder.join(name);
         fs::read(&path).unwrap_or_else(|error| panic!("{}: {error}", path.display()))

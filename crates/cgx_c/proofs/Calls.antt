@@ -2,12 +2,12 @@
 use mathlib.Core.Path.{_≡_, ap, _∙_}
 use mathlib.Core.List.{List}
 use Prim.Native.Nat.{ℕ}
-use Rattle.cgx_writing.specs.declared.Writer.{Writer}
-use Rattle.cgx_writing.specs.declared.Answer.{Answer}
-use Rattle.cgx_writing.specs.Writing.{Outcome, Begun}
-use Rattle.cgx_answers.specs.declared.PlainStart.{PlainStart}
-use Rattle.cgx_answers.specs.declared.PlainAnswer.{PlainAnswer}
-use Rattle.cgx_answers.specs.Answers.{plainBegun, plainAnswer, sentStart, sent}
+use Rattle.cgx_write_given.specs.declared.Writer.{Writer}
+use Rattle.cgx_write_given.specs.declared.Answer.{Answer}
+use Rattle.cgx_write_given.specs.Writing.{Outcome, Begun}
+use Rattle.cgx_c_answers.specs.declared.PlainStart.{PlainStart}
+use Rattle.cgx_c_answers.specs.declared.PlainAnswer.{PlainAnswer}
+use Rattle.cgx_c_answers.specs.Answers.{plainBegun, plainAnswer, sentStart, sent}
 
 -- `f` is what the call does for each writer.
 pub called : (f : Writer → Outcome) (b : List ℕ) {x : PlainAnswer} {a : Answer} {v w : Writer} → x ≡ plainAnswer a → v ≡ w → record { answer = a; buffer = b } ≡ f v → record { answer = x; buffer = b } ≡ sent (f w)

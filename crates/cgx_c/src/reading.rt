@@ -1,45 +1,45 @@
 // The checker, the walk, the normal-form maker, layer names and extents.
-use cgx_answers::PlainBox;
-use cgx_answers::PlainExtent;
-use cgx_answers::PlainMade;
-use cgx_answers::PlainPoint;
-use cgx_answers::PlainShown;
-use cgx_answers::PlainStart;
-use cgx_answers::PlainStep;
-use cgx_answers::PlainVerdict;
-use cgx_answers::plain_box;
-use cgx_answers::plain_extent;
-use cgx_answers::plain_made;
-use cgx_answers::plain_point;
-use cgx_answers::plain_shown;
-use cgx_answers::plain_started;
-use cgx_answers::plain_verdict;
-use cgx_answers::step_over;
-use cgx_check::check;
-use cgx_extent::extent;
-use cgx_kinds::Repeat;
-use cgx_kinds::Span;
-use cgx_layers::layer_at;
-use cgx_layers::shown_at;
-use cgx_lists::box_at;
-use cgx_lists::point_at;
-use cgx_lists::text_inside;
-use cgx_normal::normal_form;
-use cgx_view_words::ViewWords;
-use cgx_walk::start;
-use cgx_words::PlaceWords;
+use cgx_ask_extent::extent;
+use cgx_ask_layer_name::layer_at;
+use cgx_ask_layer_name::layer_name_at;
+use cgx_c_answers::PlainBox;
+use cgx_c_answers::PlainExtent;
+use cgx_c_answers::PlainName;
+use cgx_c_answers::PlainNormal;
+use cgx_c_answers::PlainPoint;
+use cgx_c_answers::PlainStart;
+use cgx_c_answers::PlainStep;
+use cgx_c_answers::PlainVerdict;
+use cgx_c_answers::plain_box;
+use cgx_c_answers::plain_extent;
+use cgx_c_answers::plain_name;
+use cgx_c_answers::plain_normal;
+use cgx_c_answers::plain_point;
+use cgx_c_answers::plain_started;
+use cgx_c_answers::plain_verdict;
+use cgx_c_answers::step_over;
+use cgx_c_places::PlaceWords;
+use cgx_c_views::ViewWords;
+use cgx_format_kinds::ItemList;
+use cgx_format_kinds::TextSpan;
+use cgx_normal_form::normal_form;
+use cgx_read_check::check;
+use cgx_read_lists::box_at;
+use cgx_read_lists::point_at;
+use cgx_read_lists::text_inside;
+use cgx_read_walk::start;
 ghost use mathlib.Core.Path.{_≡_};
 ghost use mathlib.Core.Bool.{true};
 ghost use Prim.Native.Nat.{_≤_};
 ghost use lib.ListN.{length};
 ghost use Rattle.cgx_spec.specs.Files.{verdictOf};
-ghost use Rattle.cgx_walk.specs.Walk.{startOf};
-ghost use Rattle.cgx_lists.specs.Lists.{boxOf, pointOf, within};
-ghost use Rattle.cgx_normal.specs.Made.{madeOf, leftIn};
-ghost use Rattle.cgx_layers.specs.Layers.{layerAnswer, shownOf, ShownIn};
-ghost use Rattle.cgx_extent.specs.Extent.{extentOf};
-ghost use Rattle.cgx_answers.specs.Answers.{verdictFrom, startedFrom, namesPlace, boxFrom, pointFrom, madeFrom, shownFrom, extentFrom};
-ghost use Rattle.cgx_answers.specs.Lent.{StepLent};
+ghost use Rattle.cgx_read_walk.specs.Walk.{startOf};
+ghost use Rattle.cgx_read_lists.specs.Lists.{boxOf, pointOf, within};
+ghost use Rattle.cgx_normal_form.specs.NormalAnswer.{normalAnswerOf, outputAfter};
+ghost use Rattle.cgx_ask_layer_name.specs.Layers.{layerAnswer, nameAnswerOf, NameAnswerInside};
+ghost use Rattle.cgx_ask_extent.specs.Extent.{extentOf};
+ghost use Rattle.cgx_c_answers.specs.Answers.{verdictFrom, startedFrom, namesPlace, boxFrom, pointFrom, normalFrom, nameFrom, extentFrom};
+ghost use Rattle.cgx_c_answers.specs.Lent.{StepLent};
 
 #[no_mangle]
 pub extern "C" fn cgx_check(file: &[u8]) -> PlainVerdict
@@ -67,21 +67,21 @@ pub extern "C" fn cgx_step(file: &[u8], place: &mut PlaceWords, view: &mut ViewW
 }
 
 #[no_mangle]
-pub extern "C" fn cgx_box_at(file: &[u8], boxes: Repeat, i: usize) -> PlainBox
+pub extern "C" fn cgx_box_at(file: &[u8], boxes: ItemList, i: usize) -> PlainBox
     ensures { λ r. ⌜ boxFrom r ≡ boxOf (now (file .entry)) boxes i ⌝ }
 {
     plain_box(box_at(file, boxes, i))
 }
 
 #[no_mangle]
-pub extern "C" fn cgx_point_at(file: &[u8], points: Repeat, i: usize) -> PlainPoint
+pub extern "C" fn cgx_point_at(file: &[u8], points: ItemList, i: usize) -> PlainPoint
     ensures { λ r. ⌜ pointFrom r ≡ pointOf (now (file .entry)) points i ⌝ }
 {
     plain_point(point_at(file, points, i))
 }
 
 #[no_mangle]
-pub extern "C" fn cgx_text_inside(file: &[u8], text: Span) -> bool
+pub extern "C" fn cgx_text_inside(file: &[u8], text: TextSpan) -> bool
     ensures { λ r. ⌜ r ≡ within (length (now (file .entry))) text ⌝ }
 {
     text_inside(file, text)
@@ -90,11 +90,11 @@ pub extern "C" fn cgx_text_inside(file: &[u8], text: Span) -> bool
 // ---- the normal form
 
 #[no_mangle]
-pub extern "C" fn cgx_normal_form(file: &[u8], out: &mut [u8]) -> PlainMade
-    ensures { λ r. ⌜ madeFrom r ≡ madeOf (now (file .entry)) (length (now (out .entry))) ⌝ }
-    ensures output { λ _. ⌜ now (out .exit) ≡ leftIn (now (file .entry)) (now (out .entry)) ⌝ }
+pub extern "C" fn cgx_normal_form(file: &[u8], out: &mut [u8]) -> PlainNormal
+    ensures { λ r. ⌜ normalFrom r ≡ normalAnswerOf (now (file .entry)) (length (now (out .entry))) ⌝ }
+    ensures output { λ _. ⌜ now (out .exit) ≡ outputAfter (now (file .entry)) (now (out .entry)) ⌝ }
 {
-    plain_made(normal_form(file, out))
+    plain_normal(normal_form(file, out))
 }
 
 // ---- questions about a layer and a cell
@@ -108,11 +108,11 @@ pub extern "C" fn cgx_layer_at(file: &[u8], at: usize) -> u8
 }
 
 #[no_mangle]
-pub extern "C" fn cgx_layer_name(file: &[u8], at: usize, substitute: &[u8]) -> PlainShown
-    ensures { λ r. ⌜ shownFrom r ≡ shownOf (now (file .entry)) at (length (now (substitute .entry))) ⌝ }
-    ensures inside { λ r. ⌜ ShownIn (now (file .entry)) (length (now (substitute .entry))) (shownFrom r) ⌝ }
+pub extern "C" fn cgx_layer_name(file: &[u8], at: usize, substitute: &[u8]) -> PlainName
+    ensures { λ r. ⌜ nameFrom r ≡ nameAnswerOf (now (file .entry)) at (length (now (substitute .entry))) ⌝ }
+    ensures inside { λ r. ⌜ NameAnswerInside (now (file .entry)) (length (now (substitute .entry))) (nameFrom r) ⌝ }
 {
-    plain_shown(shown_at(file, at, substitute))
+    plain_name(layer_name_at(file, at, substitute))
 }
 
 #[no_mangle]

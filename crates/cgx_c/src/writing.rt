@@ -1,31 +1,31 @@
 // The writer and the makers. An answer has the place after what was appended, or the old place.
-use cgx_answers::PlainAnswer;
-use cgx_answers::PlainStart;
-use cgx_answers::plain_answer;
-use cgx_answers::plain_begun;
-use cgx_answers::writer_from;
-use cgx_kinds::DataType;
-use cgx_kinds::Date;
-use cgx_kinds::LayerNo;
-use cgx_kinds::Point;
-use cgx_makers::caption_frame;
-use cgx_makers::test_card;
-use cgx_plain::PlainEight;
-use cgx_plain::places::PlainPlace;
-use cgx_writing::EndStyle;
-use cgx_writing::Grid;
+use cgx_c_answers::PlainAnswer;
+use cgx_c_answers::PlainStart;
+use cgx_c_answers::plain_answer;
+use cgx_c_answers::plain_begun;
+use cgx_c_answers::writer_from;
+use cgx_c_plain::PlainEight;
+use cgx_c_plain::places::PlainPlace;
+use cgx_format_kinds::DataType;
+use cgx_format_kinds::Date;
+use cgx_format_kinds::LayerNo;
+use cgx_format_kinds::Point;
+use cgx_write_given::EndStyle;
+use cgx_write_given::Grid;
+use cgx_write_makers::caption_frame;
+use cgx_write_makers::test_card;
 ghost use mathlib.Core.Path.{_≡_};
 ghost use mathlib.Core.Option.{none, some};
-ghost use Rattle.cgx_answers.specs.Answers.{writerFrom, sentStart, sent};
-ghost use Rattle.cgx_writing.specs.Given.{givenLibrary, givenStruct, givenCprpty, givenProperty, givenLayer, givenBox, givenPoly, givenWire, givenText, givenSref, givenEndlib};
-ghost use Rattle.cgx_writing.specs.Writing.{startIn, callIn};
-ghost use Rattle.cgx_makers.specs.Makers.{cardCalls, frameCalls, allIn};
+ghost use Rattle.cgx_c_answers.specs.Answers.{writerFrom, sentStart, sent};
+ghost use Rattle.cgx_write_given.specs.Given.{givenLibrary, givenStruct, givenCprpty, givenProperty, givenLayer, givenBox, givenPoly, givenWire, givenText, givenSref, givenEndlib};
+ghost use Rattle.cgx_write_given.specs.Writing.{startIn, callIn};
+ghost use Rattle.cgx_write_makers.specs.Makers.{cardCalls, frameCalls, allIn};
 
 #[no_mangle]
 pub extern "C" fn cgx_write_start(buf: &mut [u8]) -> PlainStart
     ensures { λ r. ⌜ record { answer = r; buffer = now (buf .exit) } ≡ sentStart (startIn (now (buf .entry))) ⌝ }
 {
-    plain_begun(cgx_writer::start(buf))
+    plain_begun(cgx_write_calls::start(buf))
 }
 
 // ---- one record a call
@@ -45,7 +45,7 @@ pub extern "C" fn cgx_write_library(
 {
     let munit_bytes = munit.bytes;
     let uunit_bytes = uunit.bytes;
-    plain_answer(cgx_writer::library(
+    plain_answer(cgx_write_calls::library(
         buf,
         writer_from(place),
         version,
@@ -67,7 +67,7 @@ pub extern "C" fn cgx_write_struct(
 ) -> PlainAnswer
     ensures { λ r. ⌜ record { answer = r; buffer = now (buf .exit) } ≡ sent (callIn (now (buf .entry)) (writerFrom place) (givenStruct created modified (now (name .entry)))) ⌝ }
 {
-    plain_answer(cgx_writer::structure(buf, writer_from(place), created, modified, name))
+    plain_answer(cgx_write_calls::structure(buf, writer_from(place), created, modified, name))
 }
 
 #[no_mangle]
@@ -79,7 +79,7 @@ pub extern "C" fn cgx_write_cprpty(
 ) -> PlainAnswer
     ensures { λ r. ⌜ record { answer = r; buffer = now (buf .exit) } ≡ sent (callIn (now (buf .entry)) (writerFrom place) (givenCprpty number (now (value .entry)))) ⌝ }
 {
-    plain_answer(cgx_writer::cprpty(buf, writer_from(place), number, value))
+    plain_answer(cgx_write_calls::cprpty(buf, writer_from(place), number, value))
 }
 
 #[no_mangle]
@@ -91,7 +91,7 @@ pub extern "C" fn cgx_write_property(
 ) -> PlainAnswer
     ensures { λ r. ⌜ record { answer = r; buffer = now (buf .exit) } ≡ sent (callIn (now (buf .entry)) (writerFrom place) (givenProperty number (now (value .entry)))) ⌝ }
 {
-    plain_answer(cgx_writer::property(buf, writer_from(place), number, value))
+    plain_answer(cgx_write_calls::property(buf, writer_from(place), number, value))
 }
 
 #[no_mangle]
@@ -103,7 +103,7 @@ pub extern "C" fn cgx_write_layer(
 ) -> PlainAnswer
     ensures { λ r. ⌜ record { answer = r; buffer = now (buf .exit) } ≡ sent (callIn (now (buf .entry)) (writerFrom place) (givenLayer number datatype none)) ⌝ }
 {
-    plain_answer(cgx_writer::layer(buf, writer_from(place), number, datatype))
+    plain_answer(cgx_write_calls::layer(buf, writer_from(place), number, datatype))
 }
 
 #[no_mangle]
@@ -116,21 +116,21 @@ pub extern "C" fn cgx_write_named_layer(
 ) -> PlainAnswer
     ensures { λ r. ⌜ record { answer = r; buffer = now (buf .exit) } ≡ sent (callIn (now (buf .entry)) (writerFrom place) (givenLayer number datatype (some (now (name .entry))))) ⌝ }
 {
-    plain_answer(cgx_writer::named_layer(buf, writer_from(place), number, datatype, name))
+    plain_answer(cgx_write_calls::named_layer(buf, writer_from(place), number, datatype, name))
 }
 
 #[no_mangle]
 pub extern "C" fn cgx_write_box(buf: &mut [u8], place: PlainPlace, sides: &[i32]) -> PlainAnswer
     ensures { λ r. ⌜ record { answer = r; buffer = now (buf .exit) } ≡ sent (callIn (now (buf .entry)) (writerFrom place) (givenBox (now (sides .entry)))) ⌝ }
 {
-    plain_answer(cgx_writer::boxes(buf, writer_from(place), sides))
+    plain_answer(cgx_write_calls::boxes(buf, writer_from(place), sides))
 }
 
 #[no_mangle]
 pub extern "C" fn cgx_write_poly(buf: &mut [u8], place: PlainPlace, points: &[i32]) -> PlainAnswer
     ensures { λ r. ⌜ record { answer = r; buffer = now (buf .exit) } ≡ sent (callIn (now (buf .entry)) (writerFrom place) (givenPoly (now (points .entry)))) ⌝ }
 {
-    plain_answer(cgx_writer::poly(buf, writer_from(place), points))
+    plain_answer(cgx_write_calls::poly(buf, writer_from(place), points))
 }
 
 #[no_mangle]
@@ -142,7 +142,7 @@ pub extern "C" fn cgx_write_wire(
 ) -> PlainAnswer
     ensures { λ r. ⌜ record { answer = r; buffer = now (buf .exit) } ≡ sent (callIn (now (buf .entry)) (writerFrom place) (givenWire EndStyle.Unstated width (now (points .entry)))) ⌝ }
 {
-    plain_answer(cgx_writer::wire(buf, writer_from(place), EndStyle::Unstated, width, points))
+    plain_answer(cgx_write_calls::wire(buf, writer_from(place), EndStyle::Unstated, width, points))
 }
 
 #[no_mangle]
@@ -155,7 +155,7 @@ pub extern "C" fn cgx_write_styled_wire(
 ) -> PlainAnswer
     ensures { λ r. ⌜ record { answer = r; buffer = now (buf .exit) } ≡ sent (callIn (now (buf .entry)) (writerFrom place) (givenWire (EndStyle.Stated style) width (now (points .entry)))) ⌝ }
 {
-    plain_answer(cgx_writer::wire(
+    plain_answer(cgx_write_calls::wire(
         buf,
         writer_from(place),
         EndStyle::Stated(style),
@@ -175,7 +175,7 @@ pub extern "C" fn cgx_write_text(
 ) -> PlainAnswer
     ensures { λ r. ⌜ record { answer = r; buffer = now (buf .exit) } ≡ sent (callIn (now (buf .entry)) (writerFrom place) (givenText flags at width (now (label .entry)))) ⌝ }
 {
-    plain_answer(cgx_writer::text(buf, writer_from(place), flags, at, width, label))
+    plain_answer(cgx_write_calls::text(buf, writer_from(place), flags, at, width, label))
 }
 
 #[no_mangle]
@@ -193,7 +193,7 @@ pub extern "C" fn cgx_write_sref(
 {
     let angle_bytes = angle.bytes;
     let magnif_bytes = magnif.bytes;
-    plain_answer(cgx_writer::sref(
+    plain_answer(cgx_write_calls::sref(
         buf,
         writer_from(place),
         flags,
@@ -209,7 +209,7 @@ pub extern "C" fn cgx_write_sref(
 pub extern "C" fn cgx_write_endlib(buf: &mut [u8], place: PlainPlace) -> PlainAnswer
     ensures { λ r. ⌜ record { answer = r; buffer = now (buf .exit) } ≡ sent (callIn (now (buf .entry)) (writerFrom place) givenEndlib) ⌝ }
 {
-    plain_answer(cgx_writer::endlib(buf, writer_from(place)))
+    plain_answer(cgx_write_calls::endlib(buf, writer_from(place)))
 }
 
 // ---- the makers: all or nothing

@@ -15,12 +15,12 @@ use Rattle.cgx_spec.specs.Kinds.{kindOf, layout}
 use Rattle.cgx_spec.specs.Order.{allowed, isObject, next}
 use Rattle.cgx_spec.specs.Records.{broken, rules, piecesOf, contextAfter, viewOf}
 use Rattle.cgx_spec.specs.Walking.{recAt}
-use Rattle.cgx_kinds.specs.declared.Fields.{Fields}
-use Rattle.cgx_kinds.specs.Meant.{fieldValues, viewMeant}
+use Rattle.cgx_format_kinds.specs.declared.Fields.{Fields}
+use Rattle.cgx_format_kinds.specs.Meant.{fieldValues, viewMeant}
 use Rattle.cgx_spec.proofs.Normal.{rules-kept}
-use Rattle.cgx_cursor.specs.declared.State.{State}
-use Rattle.cgx_cursor.specs.Cursors.{offsetIn, runIn, contextIn}
-use Rattle.cgx_views.specs.Views.{Readable}
+use Rattle.cgx_format_cursor.specs.declared.State.{State}
+use Rattle.cgx_format_cursor.specs.Cursors.{offsetIn, runIn, contextIn}
+use Rattle.cgx_read_fields.specs.Views.{Readable}
 use Rattle.cgx_read_views.specs.RecordViews.{Found, takenBy}
 
 module _ {f : List ℕ} {c : Context} {at n : ℕ} {k : Kind} {fl : ℕ} (h : Found f c at n k fl) where

@@ -11,10 +11,10 @@ use Rattle.cgx_spec.specs.Kinds.{kindOf}
 use Rattle.cgx_spec.specs.Order.{isObject}
 use Rattle.cgx_spec.specs.Records.{viewOf}
 use Rattle.cgx_spec.specs.Walking.{recAt}
-use Rattle.cgx_kinds.specs.Meant.{fieldsKind, viewMeant}
-use Rattle.cgx_kinds.specs.declared.View.{View}
-use Rattle.cgx_views.specs.Views.{FieldsAt}
-use Rattle.cgx_steps.specs.Steps.{Good}
+use Rattle.cgx_format_kinds.specs.Meant.{fieldsKind, viewMeant}
+use Rattle.cgx_format_kinds.specs.declared.View.{View}
+use Rattle.cgx_read_fields.specs.Views.{FieldsAt}
+use Rattle.cgx_read_steps.specs.Steps.{Good}
 
 -- A good record of n bytes, of kind k and with flags fl, is at an offset.
 pub record Found (f : List ℕ) (c : Context) (at n : ℕ) (k : Kind) (fl : ℕ) : Type 0 where

@@ -2,14 +2,14 @@
 ghost use mathlib.Core.Path.{_≡_};
 ghost use mathlib.Core.Option.{some};
 ghost use Rattle.cgx_spec.specs.Order.{next};
-ghost use Rattle.cgx_cursor.specs.Cursors.{offsetIn, runIn, contextIn};
+ghost use Rattle.cgx_format_cursor.specs.Cursors.{offsetIn, runIn, contextIn};
 ghost use Rattle.cgx_read_views.specs.RecordViews.{Found, Viewed, takenBy};
-use cgx_cursor::State;
-use cgx_kinds::View;
+use cgx_format_cursor::State;
+use cgx_format_kinds::View;
+use cgx_read_fields::fields_of;
 use cgx_spec::Kind;
 use cgx_spec::Offset;
 use cgx_spec::Run;
-use cgx_views::fields_of;
 
 // The good record of n bytes whose first is byte `from` of this memory, and byte `at` of the file: texts and lists count from that memory, the view's own
 // offset, its cell, layer and run from the file.

@@ -20,7 +20,7 @@ use Rattle.cgx_spec.specs.Kinds.{kindOf, typeFor, orientation, textFlags
 use Rattle.cgx_spec.specs.Order.{start, longer, next}
 use Rattle.cgx_spec.specs.Records.{size, contextAfter}
 use Rattle.cgx_spec.specs.Files.{Step, stop, go, step, walk, opening, opened, begin, walkOf}
-use Rattle.cgx_spec.specs.Restated.{typeByte, highestFlags, Side, low, middle, high, side, Orientation, orientationOf, FlagsAlike, NoZero, zerosAfter, IsString, Behind, libraryBehind, cellBehind, layerBehind, structBehind, propertiesBehind, farthest, runBehind, endBehind, lookBack}
+use Rattle.cgx_spec.specs.Restated.{typeByte, highestFlags, Side, low, middle, high, side, Orientation, orientationOf, FlagsAlike, NoZero, zerosAfter, IsString, RecordBefore, libraryBefore, cellBefore, layerBefore, structBefore, propertiesBefore, farthest, runBefore, endBefore, lookBack}
 use Rattle.cgx_spec.specs.Demands.{LooksBack, Agreement}
 use Rattle.cgx_spec.proofs.Lists.{allBelow, at-each, T→true, true→T, and-left, and-right, same→eq, same-refl}
 use Rattle.cgx_spec.proofs.Demand3.{unknown-kind}
@@ -208,22 +208,22 @@ texts b t s = ap textOf (s .is) ∙ text-before t (s .no-zero) (zerosAfter t) (z
 
 -- ---- contexts
 
-run-longer : (bs : List Behind) (b : Behind) → longer (runBehind bs) (b .at) ≡ runBehind (b ∷ bs)
-unfolding runBehind farthest
+run-longer : (bs : List RecordBefore) (b : RecordBefore) → longer (runBefore bs) (b .at) ≡ runBefore (b ∷ bs)
+unfolding runBefore farthest
 run-longer [] b = refl
 run-longer (c ∷ bs) b = ap (λ (n : ℕ). Of (farthest c bs) n) (add-one (suc (length bs)))
 
 -- what follows from a record is what looking back at it says
-abbrev pub onto : Option Kind → ℕ → List Behind → List Behind
+abbrev pub onto : Option Kind → ℕ → List RecordBefore → List RecordBefore
 onto o at bs = elim o [ none ↦ bs | some k ↦ record { kind = k; at = at } ∷ bs ]
 
-pub next-looks : (o : Option Kind) (at : ℕ) (bs : List Behind) → next (lookBack bs) at o ≡ lookBack (onto o at bs)
-unfolding lookBack typeByte libraryBehind cellBehind layerBehind structBehind propertiesBehind endBehind runBehind
+pub next-looks : (o : Option Kind) (at : ℕ) (bs : List RecordBefore) → next (lookBack bs) at o ≡ lookBack (onto o at bs)
+unfolding lookBack typeByte libraryBefore cellBefore layerBefore structBefore propertiesBefore endBefore runBefore
 next-looks none at bs = refl
 next-looks (some Library) at bs = refl
 next-looks (some Struct) at bs = refl
 next-looks (some Cprpty) at bs = refl
-next-looks (some Property) at bs = ap (λ (r : Run). record { library = libraryBehind bs; cell = cellBehind bs; layer = layerBehind bs; fresh = false; run = r; ended = false }) (run-longer (propertiesBehind bs) (record { kind = Property; at = at }))
+next-looks (some Property) at bs = ap (λ (r : Run). record { library = libraryBefore bs; cell = cellBefore bs; layer = layerBefore bs; fresh = false; run = r; ended = false }) (run-longer (propertiesBefore bs) (record { kind = Property; at = at }))
 next-looks (some Layer) at bs = refl
 next-looks (some Box) at bs = refl
 next-looks (some Poly) at bs = refl
@@ -232,7 +232,7 @@ next-looks (some Text) at bs = refl
 next-looks (some Sref) at bs = refl
 next-looks (some Endlib) at bs = refl
 
-walk-looks : (k : ℕ) (rest : List ℕ) (c : Context) (at : ℕ) (st : Step) → StepAt rest c at st → (bs : List Behind) → c ≡ lookBack bs → LooksBack bs (walk k st .records)
+walk-looks : (k : ℕ) (rest : List ℕ) (c : Context) (at : ℕ) (st : Step) → StepAt rest c at st → (bs : List RecordBefore) → c ≡ lookBack bs → LooksBack bs (walk k st .records)
 unfolding walk contextAfter
 walk-looks zero rest c at (stop v) s bs e = tt
 walk-looks (suc k) rest c at (stop v) s bs e = tt
@@ -245,7 +245,7 @@ walk-looks (suc k) rest c at (go p more) s bs e =
     (q, walk-looks k more n to (step n to more) (step-at n to more) (onto o (p .at) bs) (ap (λ (u : Context). next u (p .at) o) q ∙ next-looks o (p .at) bs))
 
 pub start-looks : start ≡ lookBack []
-unfolding start lookBack libraryBehind cellBehind layerBehind structBehind propertiesBehind endBehind runBehind
+unfolding start lookBack libraryBefore cellBefore layerBefore structBefore propertiesBefore endBefore runBefore
 start-looks = refl
 
 contexts : (f : List ℕ) → LooksBack [] (walkOf f .records)

@@ -20,7 +20,7 @@ use Rattle.cgx_spec.specs.declared.Verdict.the-variants.{Accepted as acc
 use Rattle.cgx_spec.specs.Numbers.{Bytes}
 use Rattle.cgx_spec.specs.Fields.{good, every, join}
 use Rattle.cgx_spec.specs.Kinds.{kindOf, count}
-use Rattle.cgx_spec.specs.Order.{start, stands, awaiting, met, needsOf, allowed, longer, next, OrderFacts, factsOf}
+use Rattle.cgx_spec.specs.Order.{start, present, awaiting, met, needsOf, allowed, longer, next, OrderFacts, factsOf}
 use Rattle.cgx_spec.specs.Records.{Rec, size, bytesOf, rule, broken, rules, faultOf, Placed, contextAfter}
 use Rattle.cgx_spec.specs.Files.{Cut, bad, found, cutBody, cut, Step, stop, go, settle, judge, finish, step, Walk, before, walk, header, opening, opened, begin, walkOf, verdictOf, Accepted, recordsOf}
 use Rattle.cgx_spec.specs.Written.{Sized, GoodFrom, placeAll, last}
@@ -139,7 +139,7 @@ then-is c at (some Library) = refl
 then-is c at (some Struct) = refl
 then-is c at (some Cprpty) = refl
 then-is c at (some Property) =
-    λ i. record { library = c .library; cell = stands (c .cell); layer = stands (c .layer); fresh = false; waiting = waits-on (c .run) at i; ended = false }
+    λ i. record { library = c .library; cell = present (c .cell); layer = present (c .layer); fresh = false; waiting = waits-on (c .run) at i; ended = false }
 then-is c at (some Layer) = refl
 then-is c at (some Box) = refl
 then-is c at (some Poly) = refl

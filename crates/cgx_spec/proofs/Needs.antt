@@ -15,8 +15,8 @@ use Rattle.cgx_spec.specs.declared.Need.{Need}
 use Rattle.cgx_spec.specs.declared.Need.the-variants.{LibraryBefore, NoLibraryBefore, OpenCell, LayerInForce, NoneAwaiting, OnlyCprpty}
 use Rattle.cgx_spec.specs.Fields.{every, All}
 use Rattle.cgx_spec.specs.Kinds.{kindOf}
-use Rattle.cgx_spec.specs.Order.{stands, awaiting, met, allowed}
-use Rattle.cgx_spec.specs.Restated.{typeByte, Behind, libraryBehind, propertiesBehind, runBehind, lookBack}
+use Rattle.cgx_spec.specs.Order.{present, awaiting, met, allowed}
+use Rattle.cgx_spec.specs.Restated.{typeByte, RecordBefore, libraryBefore, propertiesBefore, runBefore, lookBack}
 use Rattle.cgx_spec.specs.Checks.{oneOf, asks, Met, Kept, needs}
 use Rattle.cgx_spec.proofs.Demand3.{unknown-kind}
 use Rattle.cgx_spec.proofs.Firsts.{clash, iff-by, each-iff}
@@ -84,7 +84,7 @@ of-unknown c t h =
 
 -- ---- needs by looking back
 
-offset-iff : (o : Offset) → (stands o ≡ true) ↔ (o ≡ Nowhere → ⊥)
+offset-iff : (o : Offset) → (present o ≡ true) ↔ (o ≡ Nowhere → ⊥)
 offset-iff Nowhere = ((λ e n. clash e refl), (λ n. absurd (n refl)))
 offset-iff (At p) = ((λ e n. let z : _≡_ {A = ℕ} 0 1 = cc in omega arith), (λ n. refl))
 
@@ -92,21 +92,21 @@ not-iff : (b : Bool) → (not b ≡ true) ↔ (b ≡ false)
 not-iff true = ((λ e. sym e), (λ e. sym e))
 not-iff false = ((λ e. refl), (λ e. refl))
 
-none-iff : (bs : List Behind) → (not (awaiting (runBehind bs)) ≡ true) ↔ (bs ≡ [])
-unfolding runBehind
+none-iff : (bs : List RecordBefore) → (not (awaiting (runBefore bs)) ≡ true) ↔ (bs ≡ [])
+unfolding runBefore
 none-iff [] = ((λ e. refl), (λ e. refl))
 none-iff (b ∷ bs) = ((λ e. clash e refl), (λ e. absurd (let z : _≡_ {A = ℕ} 0 1 = cc in omega arith)))
 
-met-iff : (bs : List Behind) (n : Need) → (met (lookBack bs) n ≡ true) ↔ Met bs n
+met-iff : (bs : List RecordBefore) (n : Need) → (met (lookBack bs) n ≡ true) ↔ Met bs n
 unfolding lookBack
 met-iff bs LibraryBefore = ((λ e. e), (λ e. e))
-met-iff bs NoLibraryBefore = not-iff (libraryBehind bs)
+met-iff bs NoLibraryBefore = not-iff (libraryBefore bs)
 met-iff bs OpenCell = offset-iff _
 met-iff bs LayerInForce = offset-iff _
-met-iff bs NoneAwaiting = none-iff (propertiesBehind bs)
+met-iff bs NoneAwaiting = none-iff (propertiesBefore bs)
 met-iff bs OnlyCprpty = ((λ e. e), (λ e. e))
 
-kept-iff : (bs : List Behind) (t : ℕ) (n : Need) → (kept (lookBack bs) t n ≡ true) ↔ Kept bs t n
+kept-iff : (bs : List RecordBefore) (t : ℕ) (n : Need) → (kept (lookBack bs) t n ≡ true) ↔ Kept bs t n
 kept-iff bs t n = go (asks n t)
   where
     go : (a : Bool) → ((not a || met (lookBack bs) n) ≡ true) ↔ (a ≡ true → Met bs n)
@@ -115,7 +115,7 @@ kept-iff bs t n = go (asks n t)
 
 -- ---- rule 6
 
-pub order-iff : (bs : List Behind) (t : ℕ) → (allowed (lookBack bs) (kindOf t) ≡ true) ↔ All (Kept bs t) needs
+pub order-iff : (bs : List RecordBefore) (t : ℕ) → (allowed (lookBack bs) (kindOf t) ≡ true) ↔ All (Kept bs t) needs
 order-iff bs t =
     iff-by (by-type (λ (t : ℕ). allowed (lookBack bs) (kindOf t) ≡ every (kept (lookBack bs) t) needs) (by-kind (lookBack bs)) (of-unknown (lookBack bs)) t)
     (each-iff (kept (lookBack bs) t) (Kept bs t) (kept-iff bs t) needs)

@@ -12,7 +12,7 @@ use lib.ListN.{length, drop, length-drop}
 use Rattle.cgx_spec.specs.declared.Verdict.{Verdict}
 use Rattle.cgx_spec.specs.declared.Verdict.the-variants.{Accepted as accepted, Refused as refused}
 use Rattle.cgx_spec.specs.Fields.{All}
-use Rattle.cgx_spec.specs.Restated.{Behind, endBehind}
+use Rattle.cgx_spec.specs.Restated.{RecordBefore, endBefore}
 use Rattle.cgx_spec.specs.Checks.{FirstFails, sizeIn, typeIn, Check, none-left, numberOf, Passes, fileChecks, checksAt, GoodAt, GoodUpTo, begun, known-next, unknown-next, AllGood, NotBegun, Stopped, True}
 use Rattle.cgx_spec.proofs.Firsts.{clash, never-both, one-first}
 use Rattle.cgx_spec.proofs.Truth.{onward, onward-known, onward-unknown}
@@ -20,10 +20,10 @@ use Rattle.cgx_spec.proofs.Truth.{onward, onward-known, onward-unknown}
 -- ---- good records lead on in one way
 
 record Spot : Type 0 where
-  before : List Behind
+  before : List RecordBefore
   at : ℕ
 
-abbrev spot : List Behind → ℕ → Spot
+abbrev spot : List RecordBefore → ℕ → Spot
 spot bs at = record { before = bs; at = at }
 
 module _ (f : List ℕ) where
@@ -56,13 +56,13 @@ module _ (f : List ℕ) where
           pick (yes q) = subst (λ (k : ℕ). Moves (reach k)) (sym q) (subst Moves (c .is) w)
           pick (no n) = c .moves m (omega arith)
 
-  came : {bs : List Behind} {at : ℕ} → GoodUpTo f bs at → Came (spot bs at)
+  came : {bs : List RecordBefore} {at : ℕ} → GoodUpTo f bs at → Came (spot bs at)
   unfolding reach advance
   came (begun p) = record { steps = 0; is = refl; moves = λ m l. absurd (omega arith) }
   came (known-next {bs} {at} k g h e) =
-      subst (λ (l : List Behind). Came (spot l (at + sizeIn (drop at f)))) (onward-known k (typeIn (drop at f)) at bs e) (one-more (spot bs at) (came g) h)
+      subst (λ (l : List RecordBefore). Came (spot l (at + sizeIn (drop at f)))) (onward-known k (typeIn (drop at f)) at bs e) (one-more (spot bs at) (came g) h)
   came (unknown-next {bs} {at} g h l) =
-      subst (λ (l : List Behind). Came (spot l (at + sizeIn (drop at f)))) (onward-unknown (typeIn (drop at f)) at bs l) (one-more (spot bs at) (came g) h)
+      subst (λ (l : List RecordBefore). Came (spot l (at + sizeIn (drop at f)))) (onward-unknown (typeIn (drop at f)) at bs l) (one-more (spot bs at) (came g) h)
 
   -- two spots from which no good record leads on are one
   same-spot : {s s' : Spot} → Came s → (Moves s → ⊥) → Came s' → (Moves s' → ⊥) → s ≡ s'
@@ -77,7 +77,7 @@ module _ (f : List ℕ) where
           let q : c .steps ≡ c' .steps = omega arith in
           c .is ∙ ap reach q ∙ sym (c' .is)
 
-  well-begun : {bs : List Behind} {at : ℕ} → GoodUpTo f bs at → All (Passes [] f) fileChecks
+  well-begun : {bs : List RecordBefore} {at : ℕ} → GoodUpTo f bs at → All (Passes [] f) fileChecks
   well-begun (begun p) = p
   well-begun (known-next k g h e) = well-begun g
   well-begun (unknown-next g h l) = well-begun g
@@ -88,7 +88,7 @@ module _ (f : List ℕ) where
   record Left (s : Spot) (n : ℕ) : Type 0 where
     check : Check
     number : n ≡ numberOf check
-    first : FirstFails (Passes (s .before) (from s)) (checksAt (endBehind (s .before))) check
+    first : FirstFails (Passes (s .before) (from s)) (checksAt (endBefore (s .before))) check
 
   left : {n at : ℕ} (s : Stopped f n at) → Left (spot (s .before) at) n
   left s = record { check = s .check; number = s .number; first = s .first }

@@ -13,7 +13,7 @@ use Rattle.cgx_spec.specs.Fields.{Piece, All, lengthsFit, keeps}
 use Rattle.cgx_spec.specs.Kinds.{kindOf, goodFlags}
 use Rattle.cgx_spec.specs.Order.{allowed}
 use Rattle.cgx_spec.specs.Records.{Rec, size, piecesOf, Rule, rule, broken, rules, faultOf}
-use Rattle.cgx_spec.specs.Restated.{typeByte, goodSize, highestFlags, Behind, lookBack}
+use Rattle.cgx_spec.specs.Restated.{typeByte, goodSize, highestFlags, RecordBefore, lookBack}
 use Rattle.cgx_spec.specs.Checks.{FirstFails, recordIn, DatesGood, NumbersGood, StringsGood, PolygonsGood, Check, in-order, flags-good, body-length, dates-good, numbers-good, strings-good, poly-closed, numberOf, OfKind, Passes, ruleChecks}
 use Rattle.cgx_spec.proofs.Demand3.{unknown-kind}
 use Rattle.cgx_spec.proofs.Agreement.{agreement}
@@ -65,7 +65,7 @@ no-more P = tt
 
 -- ---- a record that lies in the file
 
-module _ (bs : List Behind) (a s fl : ℕ) (more : List ℕ) where
+module _ (bs : List RecordBefore) (a s fl : ℕ) (more : List ℕ) where
   abbrev bytes : ℕ → List ℕ
   bytes t = a ∷ s ∷ t ∷ fl ∷ more
 

@@ -210,8 +210,8 @@ units-repeated u p base lo hi n = bool-ext (units u lo hi n) (repeated base u lo
         to-units u lo hi n (eqb→eq (n % u) 0 z) (le-div-iff-mul-le p .1 (omega arith)) (div-le-of-le-mul u (omega arith))
 
 -- a beginning of at least 4 bytes, and then 8 bytes of which the first 4 are those: of a WIRE
-behind-width : (n : ℕ) → (leb 4 n && units 8 1 8190 (n - 4)) ≡ repeated 8 8 1 8190 (4 + n)
-behind-width n = go (leb 4 n) refl
+after-width : (n : ℕ) → (leb 4 n && units 8 1 8190 (n - 4)) ≡ repeated 8 8 1 8190 (4 + n)
+after-width n = go (leb 4 n) refl
   where
     go : (b : Bool) → leb 4 n ≡ b → (b && units 8 1 8190 (n - 4)) ≡ repeated 8 8 1 8190 (4 + n)
     go true e =
@@ -274,7 +274,7 @@ fits-size Box fl n e l = longs-end 4 1 4095 ordered n refl ∙ units-repeated 16
 fits-size Poly fl n e l = longs-end 2 4 8191 closed n refl ∙ units-repeated 8 (omega arith) 4 4 8191 n
 fits-size Wire fl n e l =
     let p : Prefix (layout Wire fl) 4 (longs 2 1 8190 any ∷ []) = leading _ .is in
-    p .is n ∙ ap (λ (b : Bool). leb 4 n && b) (longs-end 2 1 8190 any (n - 4) refl) ∙ behind-width n
+    p .is n ∙ ap (λ (b : Bool). leb 4 n && b) (longs-end 2 1 8190 any (n - 4) refl) ∙ after-width n
 fits-size Text fl n e l = with-string (layout Text fl) 12 (leading _ .is) refl n e (omega arith)
 fits-size Sref fl n e l = by-flags (λ fs ss cs at. fitsAll fs n ≡ leb (at + 2) (4 + n)) (sref-size n e l) fl
 fits-size Endlib fl n e l = unfold fitsAll in (bool-ext (eqb n 0) (eqb (4 + n) 4) (λ t. eq→eqb (4 + n) 4 (omega (arith, eqb→eq n 0 t))) (λ t. eq→eqb n 0 (omega (arith, eqb→eq (4 + n) 4 t))))

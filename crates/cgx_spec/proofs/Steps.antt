@@ -126,13 +126,13 @@ within-next c at at' o l w = go o
     go (some Endlib) = record { cell-in = cell; layer-in = layer; run-in = tt }
 
 -- a place that a walk, or a writer, over n bytes comes to
-pub record Standing (n : ℕ) (p : Place) : Type 0 where
+pub record Unforged (n : ℕ) (p : Place) : Type 0 where
   pub low : 4 ≤ p .at
   pub even : p .at % 2 ≡ 0
   pub high : p .at ≤ n
   pub within : Within (p .at) (p .context)
 
-pub not-forged : (n : ℕ) (p : Place) → Standing n p → forged n p ≡ false
+pub not-forged : (n : ℕ) (p : Place) → Unforged n p → forged n p ≡ false
 unfolding forged
 not-forged n p h =
     let e₁ : leb 4 (p .at) ≡ true = T→true (le→leb 4 (p .at) (h .low)) in
@@ -143,12 +143,12 @@ not-forged n p h =
     let e₆ : runUpTo (p .at) (p .context .run) ≡ true = T→true (h .within .run-in) in
     rw (e₁, e₂, e₃, e₄, e₅, e₆)
 
-pub standing-start : (n : ℕ) → 4 ≤ n → Standing n firstPlace
+pub unforged-start : (n : ℕ) → 4 ≤ n → Unforged n firstPlace
 unfolding firstPlace start
-standing-start n l = record { low = omega arith; even = refl; high = l; within = record { cell-in = tt; layer-in = tt; run-in = tt } }
+unforged-start n l = record { low = omega arith; even = refl; high = l; within = record { cell-in = tt; layer-in = tt; run-in = tt } }
 
 abbrev Reached : List ℕ → Context → ℕ → Type 0
-Reached f c at = Standing (length f) (record { at = at; context = c })
+Reached f c at = Unforged (length f) (record { at = at; context = c })
 
 -- ---- step by step
 

@@ -20,7 +20,7 @@ use Rattle.cgx_spec.specs.Kinds.{kindOf}
 use Rattle.cgx_spec.specs.Order.{next}
 use Rattle.cgx_spec.specs.Records.{Rec, size, Placed, faultOf, contextAfter}
 use Rattle.cgx_spec.specs.Files.{bad, found, cut, cutBody, Step, stop, go, settle, judge, finish, step, walk, opening, opened, begin, walkOf, verdictOf}
-use Rattle.cgx_spec.specs.Restated.{typeByte, Behind, endBehind, lookBack}
+use Rattle.cgx_spec.specs.Restated.{typeByte, RecordBefore, endBefore, lookBack}
 use Rattle.cgx_spec.specs.Checks.{FirstFails, sizeIn, typeIn, Check, cgx-first, level-zero, some-left, whole-header, size-good, size-inside, none-left, numberOf, Passes, fileChecks, ruleChecks, recordChecks, checksAt, GoodAt, GoodUpTo, begun, known-next, unknown-next, Stopped, True}
 use Rattle.cgx_spec.proofs.Lists.{true→T, and-left, and-right, or-left-false, or-right-false, Bytes-drop}
 use Rattle.cgx_spec.proofs.Steps.{StepAt, step-at}
@@ -32,20 +32,20 @@ use Rattle.cgx_spec.proofs.Outcomes.{Outcome, Whole, rules-outcome}
 -- ---- one step
 
 -- the first check that fails, by the number of a refusal
-record Found (bs : List Behind) (b : List ℕ) (l : List Check) (n : ℕ) : Type 0 where
+record Found (bs : List RecordBefore) (b : List ℕ) (l : List Check) (n : ℕ) : Type 0 where
   check : Check
   number : n ≡ numberOf check
   first : FirstFails (Passes bs b) l check
 
-abbrev StepTruth : Bool → List Behind → List ℕ → ℕ → Step → Type 0
+abbrev StepTruth : Bool → List RecordBefore → List ℕ → ℕ → Step → Type 0
 StepTruth z bs b at (stop accepted) = (z ≡ true) × (length b ≡ 0)
 StepTruth z bs b at (stop (refused n p)) = (p ≡ at) × Found bs b (checksAt z) n
 StepTruth z bs b at (go p rest) = (z ≡ false) × All (Passes bs b) recordChecks × (size (p .rec) ≡ sizeIn b) × (p .rec .type ≡ typeIn b)
 
-few : (bs : List Behind) (b : List ℕ) → 1 ≤ length b → length b < 4 → Found bs b recordChecks 4
+few : (bs : List RecordBefore) (b : List ℕ) → 1 ≤ length b → length b < 4 → Found bs b recordChecks 4
 few bs b h l = record { check = whole-header; number = refl; first = first-later h (first-here whole-header _ (λ p. omega arith)) }
 
-judged : (bs : List Behind) (at : ℕ) (b : List ℕ) → Bytes b → StepTruth false bs b at (judge (lookBack bs) at (cut b))
+judged : (bs : List RecordBefore) (at : ℕ) (b : List ℕ) → Bytes b → StepTruth false bs b at (judge (lookBack bs) at (cut b))
 unfolding judge cut cutBody settle
 judged bs at [] h = (refl, record { check = some-left; number = refl; first = first-here some-left _ (λ p. omega arith) })
 judged bs at (a ∷ []) h = (refl, few bs (a ∷ []) (omega arith) (omega arith))
@@ -96,11 +96,11 @@ judged bs at (a ∷ s ∷ t ∷ fl ∷ more) h = one (eqb (n % 2) 1 || ltb n 4) 
         let odd = eqb-false (n % 2) 1 (or-left-false (eqb (n % 2) 1) (ltb n 4) e) in
         two (ltb (length more) (n - 4)) refl (omega arith) (ltb-false n 4 (or-right-false (eqb (n % 2) 1) (ltb n 4) e))
 
-step-truth : (bs : List Behind) (at : ℕ) (b : List ℕ) → Bytes b → StepTruth (endBehind bs) bs b at (step (lookBack bs) at b)
+step-truth : (bs : List RecordBefore) (at : ℕ) (b : List ℕ) → Bytes b → StepTruth (endBefore bs) bs b at (step (lookBack bs) at b)
 unfolding step finish
 step-truth bs at b h = subst (λ (z : Bool). StepTruth z bs b at (step (lookBack bs) at b)) (ended-is bs) (one (lookBack bs .ended))
   where
-    ended-is : (bs : List Behind) → lookBack bs .ended ≡ endBehind bs
+    ended-is : (bs : List RecordBefore) → lookBack bs .ended ≡ endBefore bs
     ended-is bs = unfold lookBack in refl
 
     end : (b : List ℕ) → StepTruth true bs b at (stop (finish at b))
@@ -114,16 +114,16 @@ step-truth bs at b h = subst (λ (z : Bool). StepTruth z bs b at (step (lookBack
 -- ---- one good record more
 
 -- the known records before, by the type of one more
-abbrev pub onward : ℕ → ℕ → List Behind → List Behind
+abbrev pub onward : ℕ → ℕ → List RecordBefore → List RecordBefore
 onward t at bs = onto (kindOf t) at bs
 
-pub onward-known : (k : Kind) (t at : ℕ) (bs : List Behind) → t ≡ typeByte k → onward t at bs ≡ record { kind = k; at = at } ∷ bs
+pub onward-known : (k : Kind) (t at : ℕ) (bs : List RecordBefore) → t ≡ typeByte k → onward t at bs ≡ record { kind = k; at = at } ∷ bs
 onward-known k t at bs e = ap (λ (o : Option Kind). onto o at bs) (ap kindOf e ∙ agreement .types k)
 
-pub onward-unknown : (t at : ℕ) (bs : List Behind) → 11 ≤ t → onward t at bs ≡ bs
+pub onward-unknown : (t at : ℕ) (bs : List RecordBefore) → 11 ≤ t → onward t at bs ≡ bs
 onward-unknown t at bs h = ap (λ (o : Option Kind). onto o at bs) (agreement .unknown t h)
 
-further : {f : List ℕ} {bs : List Behind} {at : ℕ} → GoodUpTo f bs at → GoodAt f bs at → GoodUpTo f (onward (typeIn (drop at f)) at bs) (at + sizeIn (drop at f))
+further : {f : List ℕ} {bs : List RecordBefore} {at : ℕ} → GoodUpTo f bs at → GoodAt f bs at → GoodUpTo f (onward (typeIn (drop at f)) at bs) (at + sizeIn (drop at f))
 further {f} {bs} {at} g h = by-type (λ (t : ℕ). typeIn b ≡ t → Leads) known unknown (typeIn b) refl
   where
     b : List ℕ
@@ -133,12 +133,12 @@ further {f} {bs} {at} g h = by-type (λ (t : ℕ). typeIn b ≡ t → Leads) kno
     Leads = GoodUpTo f (onward (typeIn b) at bs) (at + sizeIn b)
 
     known : (k : Kind) → typeIn b ≡ typeByte k → Leads
-    known k e = subst (λ (l : List Behind). GoodUpTo f l (at + sizeIn b)) (sym (onward-known k (typeIn b) at bs e)) (known-next k g h e)
+    known k e = subst (λ (l : List RecordBefore). GoodUpTo f l (at + sizeIn b)) (sym (onward-known k (typeIn b) at bs e)) (known-next k g h e)
 
     unknown : (t : ℕ) → 11 ≤ t → typeIn b ≡ t → Leads
     unknown t l e =
         let m : 11 ≤ typeIn b = omega arith in
-        subst (λ (l : List Behind). GoodUpTo f l (at + sizeIn b)) (sym (onward-unknown (typeIn b) at bs m)) (unknown-next g h m)
+        subst (λ (l : List RecordBefore). GoodUpTo f l (at + sizeIn b)) (sym (onward-unknown (typeIn b) at bs m)) (unknown-next g h m)
 
 -- ---- a walk
 
@@ -147,15 +147,15 @@ module _ (f : List ℕ) (h : Bytes f) where
   Told k c at b = True f (walk k (step c at b) .verdict)
 
   abbrev Going : ℕ → Type 0
-  Going k = (bs : List Behind) (at : ℕ) → GoodUpTo f bs at → at ≤ length f → length (drop at f) ≤ k → Told k (lookBack bs) at (drop at f)
+  Going k = (bs : List RecordBefore) (at : ℕ) → GoodUpTo f bs at → at ≤ length f → length (drop at f) ≤ k → Told k (lookBack bs) at (drop at f)
 
-  stopped : (bs : List Behind) (at : ℕ) → GoodUpTo f bs at → at ≤ length f → (v : Verdict) → StepTruth (endBehind bs) bs (drop at f) at (stop v) → True f v
+  stopped : (bs : List RecordBefore) (at : ℕ) → GoodUpTo f bs at → at ≤ length f → (v : Verdict) → StepTruth (endBefore bs) bs (drop at f) at (stop v) → True f v
   stopped bs at g l accepted s = record { before = bs; good = subst (GoodUpTo f bs) (let z = s .1 in omega (arith, length-drop at f)) g; last = s .0 }
   stopped bs at g l (refused n p) s =
       let x = s .1 in
       inr (subst (Stopped f n) (sym (s .0)) (record { before = bs; earlier = g; check = x .check; number = x .number; first = x .first }))
 
-  went : (k : ℕ) → Going k → (bs : List Behind) (at : ℕ) → GoodUpTo f bs at → at ≤ length f → length (drop at f) ≤ suc k → (p : Placed) (rest : List ℕ) → StepTruth (endBehind bs) bs (drop at f) at (go p rest) → StepAt (drop at f) (lookBack bs) at (go p rest) → Told k (contextAfter p) (p .at + size (p .rec)) rest
+  went : (k : ℕ) → Going k → (bs : List RecordBefore) (at : ℕ) → GoodUpTo f bs at → at ≤ length f → length (drop at f) ≤ suc k → (p : Placed) (rest : List ℕ) → StepTruth (endBefore bs) bs (drop at f) at (go p rest) → StepAt (drop at f) (lookBack bs) at (go p rest) → Told k (contextAfter p) (p .at + size (p .rec)) rest
   unfolding contextAfter
   went k ih bs at g l m p rest s a =
       subst (λ (b : List ℕ). Told k (contextAfter p) (p .at + size (p .rec)) b) (sym (a .0 ∙ drop-drop (size (p .rec)) at f ∙ ap (λ (n : ℕ). drop (at + n) f) (s .2)))
@@ -185,12 +185,12 @@ module _ (f : List ℕ) (h : Bytes f) where
   unfolding walk
   walk-truth zero = λ bs at g l m. turn bs at g l m (step (lookBack bs) at (drop at f)) (step-truth bs at (drop at f) (Bytes-drop at f h)) (step-at (lookBack bs) at (drop at f))
     where
-      turn : (bs : List Behind) (at : ℕ) → GoodUpTo f bs at → at ≤ length f → length (drop at f) ≤ 0 → (st : Step) → StepTruth (endBehind bs) bs (drop at f) at st → StepAt (drop at f) (lookBack bs) at st → True f (walk 0 st .verdict)
+      turn : (bs : List RecordBefore) (at : ℕ) → GoodUpTo f bs at → at ≤ length f → length (drop at f) ≤ 0 → (st : Step) → StepTruth (endBefore bs) bs (drop at f) at st → StepAt (drop at f) (lookBack bs) at st → True f (walk 0 st .verdict)
       turn bs at g l m (stop v) s a = stopped bs at g l v s
       turn bs at g l m (go p rest) s a = absurd (let x = a .1 in omega arith)
   walk-truth (suc k) = λ bs at g l m. turn bs at g l m (step (lookBack bs) at (drop at f)) (step-truth bs at (drop at f) (Bytes-drop at f h)) (step-at (lookBack bs) at (drop at f)) (walk-truth k)
     where
-      turn : (bs : List Behind) (at : ℕ) → GoodUpTo f bs at → at ≤ length f → length (drop at f) ≤ suc k → (st : Step) → StepTruth (endBehind bs) bs (drop at f) at st → StepAt (drop at f) (lookBack bs) at st → Going k → True f (walk (suc k) st .verdict)
+      turn : (bs : List RecordBefore) (at : ℕ) → GoodUpTo f bs at → at ≤ length f → length (drop at f) ≤ suc k → (st : Step) → StepTruth (endBefore bs) bs (drop at f) at st → StepAt (drop at f) (lookBack bs) at st → Going k → True f (walk (suc k) st .verdict)
       turn bs at g l m (stop v) s a ih = stopped bs at g l v s
       turn bs at g l m (go p rest) s a ih = went k ih bs at g l m p rest s a
 

@@ -19,7 +19,7 @@ use Rattle.cgx_spec.specs.declared.Verdict.the-variants.{Accepted as acc
 use Rattle.cgx_spec.specs.Numbers.{longOf, longsOf}
 use Rattle.cgx_spec.specs.Reals.{realOf}
 use Rattle.cgx_spec.specs.Fields.{All}
-use Rattle.cgx_spec.specs.Restated.{typeByte, goodSize, highestFlags, datesAt, scalesAt, countsAt, boxesAt, stringsAt, polygonsAt, IsString, IsDate, Boxes, Behind, libraryBehind, cellBehind, layerBehind, structBehind, propertiesBehind, endBehind}
+use Rattle.cgx_spec.specs.Restated.{typeByte, goodSize, highestFlags, datesAt, scalesAt, countsAt, boxesAt, stringsAt, polygonsAt, IsString, IsDate, Boxes, RecordBefore, libraryBefore, cellBefore, layerBefore, structBefore, propertiesBefore, endBefore}
 
 -- ---- lists
 
@@ -74,16 +74,16 @@ asks NoneAwaiting t = oneOf (Library ∷ Struct ∷ Cprpty ∷ Layer ∷ Endlib 
 asks OnlyCprpty t = oneOf (Cprpty ∷ []) t
 
 -- The needs by the known records before, nearest first.
-abbrev pub Met : List Behind → Need → Type 0
-Met bs LibraryBefore = libraryBehind bs ≡ true
-Met bs NoLibraryBefore = libraryBehind bs ≡ false
-Met bs OpenCell = cellBehind bs ≡ Nowhere → ⊥
-Met bs LayerInForce = layerBehind bs ≡ Nowhere → ⊥
-Met bs NoneAwaiting = propertiesBehind bs ≡ []
-Met bs OnlyCprpty = structBehind bs ≡ true
+abbrev pub Met : List RecordBefore → Need → Type 0
+Met bs LibraryBefore = libraryBefore bs ≡ true
+Met bs NoLibraryBefore = libraryBefore bs ≡ false
+Met bs OpenCell = cellBefore bs ≡ Nowhere → ⊥
+Met bs LayerInForce = layerBefore bs ≡ Nowhere → ⊥
+Met bs NoneAwaiting = propertiesBefore bs ≡ []
+Met bs OnlyCprpty = structBefore bs ≡ true
 
 -- A need is met, if a record of this type has it.
-abbrev pub Kept : List Behind → ℕ → Need → Type 0
+abbrev pub Kept : List RecordBefore → ℕ → Need → Type 0
 Kept bs t n = asks n t ≡ true → Met bs n
 
 -- All needs.
@@ -158,7 +158,7 @@ abbrev pub OfKind : ℕ → (Kind → Type 0) → Type 0
 OfKind t P = (k : Kind) → t ≡ typeByte k → P k
 
 -- The check passes, of the bytes b from its place on, after the known records bs.
-abbrev pub Passes : List Behind → List ℕ → Check → Type 0
+abbrev pub Passes : List RecordBefore → List ℕ → Check → Type 0
 -- 1: "under 4 bytes, or not `cgx`"
 Passes bs b cgx-first = (4 ≤ length b) × (getD b 0 0 ≡ 99) × (getD b 1 0 ≡ 103) × (getD b 2 0 ≡ 120)
 -- 2: "level not 0"
@@ -207,28 +207,28 @@ checksAt ended = cond ended (none-left ∷ []) recordChecks
 -- ---- records one after another
 
 -- At this offset is a record that passes every check, after these known ones, of which the last is not ENDLIB.
-pub record GoodAt (f : List ℕ) (bs : List Behind) (at : ℕ) : Type 0 where
-  pub running : endBehind bs ≡ false
+pub record GoodAt (f : List ℕ) (bs : List RecordBefore) (at : ℕ) : Type 0 where
+  pub running : endBefore bs ≡ false
   pub good : All (Passes bs (drop at f)) recordChecks
 
 -- Good records, one after another, lead up to an offset; bs are the known ones, nearest first.
-pub data GoodUpTo (f : List ℕ) : List Behind → ℕ → Type 0 where
+pub data GoodUpTo (f : List ℕ) : List RecordBefore → ℕ → Type 0 where
   -- "Its records begin at offset 4"
   begun : All (Passes [] f) fileChecks → GoodUpTo f [] 4
   -- "and follow one another, each as long as its size says, up to ENDLIB."
-  known-next : {bs : List Behind} {at : ℕ} (k : Kind) → GoodUpTo f bs at → GoodAt f bs at → typeIn (drop at f) ≡ typeByte k → GoodUpTo f (record { kind = k; at = at } ∷ bs) (at + sizeIn (drop at f))
+  known-next : {bs : List RecordBefore} {at : ℕ} (k : Kind) → GoodUpTo f bs at → GoodAt f bs at → typeIn (drop at f) ≡ typeByte k → GoodUpTo f (record { kind = k; at = at } ∷ bs) (at + sizeIn (drop at f))
   -- "Types 11 to 255 are unknown: skipped after LIBRARY"
-  unknown-next : {bs : List Behind} {at : ℕ} → GoodUpTo f bs at → GoodAt f bs at → 11 ≤ typeIn (drop at f) → GoodUpTo f bs (at + sizeIn (drop at f))
+  unknown-next : {bs : List RecordBefore} {at : ℕ} → GoodUpTo f bs at → GoodAt f bs at → 11 ≤ typeIn (drop at f) → GoodUpTo f bs (at + sizeIn (drop at f))
 
 -- ---- a true verdict
 
 -- "none of refusals 1 to 13 applies"
 pub record AllGood (f : List ℕ) : Type 0 where
-  pub before : List Behind
+  pub before : List RecordBefore
   -- Good records lead up to the end of the file,
   pub good : GoodUpTo f before (length f)
   -- and the last known one is ENDLIB.
-  pub last : endBehind before ≡ true
+  pub last : endBefore before ≡ true
 
 -- 1 and 2: the first check of the file's first four bytes that fails. The place named is 0.
 pub record NotBegun (f : List ℕ) (n at : ℕ) : Type 0 where
@@ -239,13 +239,13 @@ pub record NotBegun (f : List ℕ) (n at : ℕ) : Type 0 where
 
 -- 3 to 13: "The first bad record decides."
 pub record Stopped (f : List ℕ) (n at : ℕ) : Type 0 where
-  pub before : List Behind
+  pub before : List RecordBefore
   -- Good records lead up to the place that is named,
   pub earlier : GoodUpTo f before at
   -- and there the first check that fails has this number.
   pub check : Check
   pub number : n ≡ numberOf check
-  pub first : FirstFails (Passes before (drop at f)) (checksAt (endBehind before)) check
+  pub first : FirstFails (Passes before (drop at f)) (checksAt (endBefore before)) check
 
 -- The verdict is true of the file.
 abbrev pub True : List ℕ → Verdict → Type 0

@@ -27,7 +27,7 @@ use Rattle.cgx_spec.specs.Records.{Rec, size, bytesOf, piecesOf, Placed,
 use Rattle.cgx_spec.specs.Files.{header, walkOf, verdictOf, Accepted, recordsOf, known, sequence, meanings, SameMeaning, normals, normalForm, viewsOf}
 use Rattle.cgx_spec.specs.Walking.{firstPlace, Answer, seen, done, refusedAt, ending, stepOf, reads}
 use Rattle.cgx_spec.specs.Written.{GoodFrom, placeAll, AddedTo}
-use Rattle.cgx_spec.specs.Restated.{typeByte, goodSize, highestFlags, FlagsAlike, IsString, Behind, lookBack}
+use Rattle.cgx_spec.specs.Restated.{typeByte, goodSize, highestFlags, FlagsAlike, IsString, RecordBefore, lookBack}
 use Rattle.cgx_spec.specs.Checks.{True}
 use Rattle.cgx_spec.specs.Specimens.{Holds, specimens, Drawing}
 
@@ -113,7 +113,7 @@ pub record RealPromises : Type 0 where
 -- ---- the definitions agree with 01 stated a second time
 
 -- Each context is what looking back at the known records before it says.
-abbrev pub LooksBack : List Behind → List Placed → Type 0
+abbrev pub LooksBack : List RecordBefore → List Placed → Type 0
 LooksBack bs [] = Unit {0}
 LooksBack bs (p ∷ ps) =
     (p .context ≡ lookBack bs) × LooksBack (elim (kindOf (p .rec .type)) [ none ↦ bs | some k ↦ record { kind = k; at = p .at } ∷ bs ]) ps

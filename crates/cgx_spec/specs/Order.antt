@@ -20,9 +20,9 @@ start = record { library = false; cell = Nowhere; layer = Nowhere; fresh = false
 
 -- ---- needs
 
-abbrev pub stands : Offset → Bool
-stands Nowhere = false
-stands (At p) = true
+abbrev pub present : Offset → Bool
+present Nowhere = false
+present (At p) = true
 
 abbrev pub awaiting : Run → Bool
 awaiting Empty = false
@@ -34,9 +34,9 @@ met c LibraryBefore = c .library
 -- it "stands once"
 met c NoLibraryBefore = not (c .library)
 -- CPRPTY and PROPERTY are in a cell; "LAYER needs a cell", "SREF only a cell"
-met c OpenCell = stands (c .cell)
+met c OpenCell = present (c .cell)
 -- "BOX, POLY, WIRE and TEXT need a layer"
-met c LayerInForce = stands (c .layer)
+met c LayerInForce = present (c .layer)
 -- PROPERTY "must be followed by PROPERTY or by BOX, POLY, WIRE, TEXT or SREF"
 met c NoneAwaiting = not (awaiting (c .run))
 -- "CPRPTY stands after STRUCT with only CPRPTY between"
@@ -117,4 +117,4 @@ pub record OrderFacts : Type 0 where
 
 abbrev pub factsOf : Context → OrderFacts
 factsOf c =
-    record { library = c .library; cell = stands (c .cell); layer = stands (c .layer); fresh = c .fresh; waiting = awaiting (c .run); ended = c .ended }
+    record { library = c .library; cell = present (c .cell); layer = present (c .layer); fresh = c .fresh; waiting = awaiting (c .run); ended = c .ended }

@@ -263,57 +263,57 @@ Boxes (l ∷ b ∷ r ∷ t ∷ more) = (l ≤ℤ r) × (b ≤ℤ t) × Boxes mor
 
 -- ---- the context, by looking back at the known records already read, nearest first
 
-pub record Behind : Type 0 where
+pub record RecordBefore : Type 0 where
   pub kind : Kind
   pub at : ℕ
 
-abbrev pub is : Kind → Behind → Bool
+abbrev pub is : Kind → RecordBefore → Bool
 is k b = eqb (typeByte k) (typeByte (b .kind))
 
-unfoldable pub libraryBehind : List Behind → Bool
-libraryBehind [] = false
-libraryBehind (b ∷ bs) = is Library b || libraryBehind bs
+unfoldable pub libraryBefore : List RecordBefore → Bool
+libraryBefore [] = false
+libraryBefore (b ∷ bs) = is Library b || libraryBefore bs
 
 -- The nearest STRUCT.
-unfoldable pub cellBehind : List Behind → Offset
-cellBehind [] = Nowhere
-cellBehind (b ∷ bs) = cond (is Struct b) (At (b .at)) (cond (is Library b) Nowhere (cellBehind bs))
+unfoldable pub cellBefore : List RecordBefore → Offset
+cellBefore [] = Nowhere
+cellBefore (b ∷ bs) = cond (is Struct b) (At (b .at)) (cond (is Library b) Nowhere (cellBefore bs))
 
 -- The nearest LAYER, unless a STRUCT is nearer.
-unfoldable pub layerBehind : List Behind → Offset
-layerBehind [] = Nowhere
-layerBehind (b ∷ bs) = cond (is Layer b) (At (b .at)) (cond (is Struct b || is Library b) Nowhere (layerBehind bs))
+unfoldable pub layerBefore : List RecordBefore → Offset
+layerBefore [] = Nowhere
+layerBefore (b ∷ bs) = cond (is Layer b) (At (b .at)) (cond (is Struct b || is Library b) Nowhere (layerBefore bs))
 
 -- STRUCT, with nothing but CPRPTY nearer.
-unfoldable pub structBehind : List Behind → Bool
-structBehind [] = false
-structBehind (b ∷ bs) = is Struct b || (is Cprpty b && structBehind bs)
+unfoldable pub structBefore : List RecordBefore → Bool
+structBefore [] = false
+structBefore (b ∷ bs) = is Struct b || (is Cprpty b && structBefore bs)
 
 -- The PROPERTY records with nothing nearer.
-unfoldable pub propertiesBehind : List Behind → List Behind
-propertiesBehind [] = []
-propertiesBehind (b ∷ bs) = cond (is Property b) (b ∷ propertiesBehind bs) []
+unfoldable pub propertiesBefore : List RecordBefore → List RecordBefore
+propertiesBefore [] = []
+propertiesBefore (b ∷ bs) = cond (is Property b) (b ∷ propertiesBefore bs) []
 
 -- The offset of the farthest of them.
-unfoldable pub farthest : Behind → List Behind → ℕ
+unfoldable pub farthest : RecordBefore → List RecordBefore → ℕ
 farthest b [] = b .at
 farthest b (c ∷ bs) = farthest c bs
 
-unfoldable pub runBehind : List Behind → Run
-runBehind [] = Empty
-runBehind (b ∷ bs) = Of (farthest b bs) (length (b ∷ bs))
+unfoldable pub runBefore : List RecordBefore → Run
+runBefore [] = Empty
+runBefore (b ∷ bs) = Of (farthest b bs) (length (b ∷ bs))
 
-unfoldable pub endBehind : List Behind → Bool
-endBehind [] = false
-endBehind (b ∷ bs) = is Endlib b
+unfoldable pub endBefore : List RecordBefore → Bool
+endBefore [] = false
+endBefore (b ∷ bs) = is Endlib b
 
-unfoldable pub lookBack : List Behind → Context
+unfoldable pub lookBack : List RecordBefore → Context
 lookBack bs =
     record {
-      library = libraryBehind bs;
-      cell = cellBehind bs;
-      layer = layerBehind bs;
-      fresh = structBehind bs;
-      run = runBehind (propertiesBehind bs);
-      ended = endBehind bs;
+      library = libraryBefore bs;
+      cell = cellBefore bs;
+      layer = layerBefore bs;
+      fresh = structBefore bs;
+      run = runBefore (propertiesBefore bs);
+      ended = endBefore bs;
     }

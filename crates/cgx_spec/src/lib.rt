@@ -17,7 +17,7 @@ pub enum Kind {
     Endlib,
 }
 
-// The limits that every kind shares; those of each kind are constants of its own struct, in `cgx_kinds`.
+// The limits that every kind shares; those of each kind are constants of its own struct, in `cgx_format_kinds`.
 impl Kind {
     // Size, type and flags: no record is shorter.
     pub const HEADER_SIZE: usize = 4;

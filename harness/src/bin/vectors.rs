@@ -1,7 +1,7 @@
 //! Compares the stored vectors with what the reference says of them.
 //!
 //! `vectors` names each case whose answers differ; `vectors --write` stores
-//! the reference's answers anew, and the files that `cgx_reached` is run on
+//! the reference's answers anew, and the files that `cgx_test_reader` is run on
 //! with what it must print. The last line is `N passed, M failed`.
 
 use std::fs;
@@ -46,7 +46,7 @@ fn store() -> ExitCode {
         fs::write(path, write(&cases)).expect("the vectors can be written");
         stored.append(&mut cases);
     }
-    let crate_folder = in_project("crates/cgx_reached");
+    let crate_folder = in_project("crates/cgx_test_reader");
     let data = crate_folder.join("data");
     fs::create_dir_all(&data).expect("the folder can be made");
     let (mut names, mut printed) = (String::new(), String::new());

@@ -1,4 +1,4 @@
-//! What `cgx_reached` prints: the answers that only Rattle can reach.
+//! What `cgx_test_reader` prints: the answers that only Rattle can reach.
 
 use super::answers::SUBSTITUTE;
 use super::stored::Case;
@@ -6,7 +6,7 @@ use crate::reference::{
     good_layer, layer_name, start, step, Fields, Place, Refusal, Source, Step, Text,
 };
 
-/// The vectors that `cgx_reached` is run on. A reader that lost a part of its
+/// The vectors that `cgx_test_reader` is run on. A reader that lost a part of its
 /// context on the way would answer one of them otherwise.
 pub const REACHED: [&str; 11] = [
     "query-every-kind-unknown-between",

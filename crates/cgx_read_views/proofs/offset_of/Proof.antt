@@ -2,8 +2,8 @@
 use mathlib.Core.Path.{refl, sym}
 use native.Mathlib.Omega.{arith}
 use Prim.Native.Nat.{_<_}
-use Rattle.cgx_cursor.specs.Cursors.{offsetIn}
-use Rattle.cgx_cursor.proofs.Laws.{at-in}
+use Rattle.cgx_format_cursor.specs.Cursors.{offsetIn}
+use Rattle.cgx_format_cursor.proofs.Laws.{at-in}
 use Rattle.cgx_read_views.proofs.offset_of.Statement.{statement}
 use Rattle.cgx_read_views.proofs.offset_of.Tie as tie
 

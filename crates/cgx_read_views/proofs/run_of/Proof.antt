@@ -2,8 +2,8 @@
 use mathlib.Core.Path.{refl, sym}
 use native.Mathlib.Omega.{arith}
 use Prim.Native.Nat.{_<_}
-use Rattle.cgx_cursor.specs.Cursors.{runIn}
-use Rattle.cgx_cursor.proofs.Laws.{run-in}
+use Rattle.cgx_format_cursor.specs.Cursors.{runIn}
+use Rattle.cgx_format_cursor.proofs.Laws.{run-in}
 use Rattle.cgx_read_views.proofs.run_of.Statement.{statement}
 use Rattle.cgx_read_views.proofs.run_of.Tie as tie
 

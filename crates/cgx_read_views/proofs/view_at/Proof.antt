@@ -1,7 +1,7 @@
 -- Field by field (`Views`).
 use mathlib.Core.Path.{refl, ap, _∙_}
 use Prim.Native.Nat.{ℕ}
-use Rattle.cgx_cursor.specs.Cursors.{runIn}
+use Rattle.cgx_format_cursor.specs.Cursors.{runIn}
 use Rattle.cgx_read_views.proofs.Views.{readable, view-is}
 use borrow.Author.Needs.{needs}
 use Rattle.cgx_read_views.proofs.view_at.Statement.{statement}

@@ -1,6 +1,6 @@
 -- The struct means the answer of the call.
 use mathlib.Core.Path.{_∙_}
-use Rattle.cgx_answers.proofs.Lent.{begun}
+use Rattle.cgx_c_answers.proofs.Lent.{begun}
 use borrow.Author.Needs.{needs}
 use Rattle.cgx_c.proofs.reading.cgx_start.Statement.{statement}
 use Rattle.cgx_c.proofs.reading.cgx_start.Tie as tie

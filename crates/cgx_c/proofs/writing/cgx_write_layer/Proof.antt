@@ -1,8 +1,8 @@
 -- The answer of the call, as C has it.
 use mathlib.Core.Option.{none}
-use Rattle.cgx_writing.specs.declared.Writer.{Writer}
-use Rattle.cgx_writing.specs.Given.{givenLayer}
-use Rattle.cgx_writing.specs.Writing.{callIn}
+use Rattle.cgx_write_given.specs.declared.Writer.{Writer}
+use Rattle.cgx_write_given.specs.Given.{givenLayer}
+use Rattle.cgx_write_given.specs.Writing.{callIn}
 use Rattle.cgx_c.proofs.Calls.{called}
 use borrow.Author.Needs.{needs}
 use Rattle.cgx_c.proofs.writing.cgx_write_layer.Statement.{statement}

@@ -1,7 +1,7 @@
 -- The answer of the call, as C has it.
-use Rattle.cgx_writing.specs.declared.Writer.{Writer}
-use Rattle.cgx_writing.specs.Given.{givenLibrary}
-use Rattle.cgx_writing.specs.Writing.{callIn}
+use Rattle.cgx_write_given.specs.declared.Writer.{Writer}
+use Rattle.cgx_write_given.specs.Given.{givenLibrary}
+use Rattle.cgx_write_given.specs.Writing.{callIn}
 use Rattle.cgx_c.proofs.Calls.{called}
 use borrow.Author.Needs.{needs}
 use Rattle.cgx_c.proofs.writing.cgx_write_library.Statement.{statement}

@@ -1,5 +1,5 @@
 -- The answer of the call, as C has it.
-use Rattle.cgx_writing.specs.Writing.{startIn}
+use Rattle.cgx_write_given.specs.Writing.{startIn}
 use Rattle.cgx_c.proofs.Calls.{begun}
 use borrow.Author.Needs.{needs}
 use Rattle.cgx_c.proofs.writing.cgx_write_start.Statement.{statement}

@@ -1,11 +1,11 @@
 -- The answer of the call, as C has it.
-use Rattle.cgx_writing.specs.declared.EndStyle.the-variants.{Stated}
-use Rattle.cgx_writing.specs.declared.Writer.{Writer}
-use Rattle.cgx_writing.specs.Given.{givenWire}
-use Rattle.cgx_writing.specs.Writing.{callIn}
+use Rattle.cgx_write_given.specs.declared.EndStyle.the-variants.{Stated}
+use Rattle.cgx_write_given.specs.declared.Writer.{Writer}
+use Rattle.cgx_write_given.specs.Given.{givenWire}
+use Rattle.cgx_write_given.specs.Writing.{callIn}
 use mathlib.Core.Path.{_≡_, _∙_}
 use mir.Syntax.{w32}
-use Rattle.cgx_numbers.proofs.Signed.{back}
+use Rattle.numbers.proofs.Signed.{back}
 use Rattle.cgx_c.proofs.Calls.{called}
 use borrow.Author.Needs.{needs}
 use Rattle.cgx_c.proofs.writing.cgx_write_styled_wire.Statement.{statement}

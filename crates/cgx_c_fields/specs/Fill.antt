@@ -1,0 +1,17 @@
+-- The fields of a record in a C caller's view. Definitions only.
+use mathlib.Core.Path.{_≡_}
+use mathlib.Core.List.{List}
+use Prim.Native.Nat.{ℕ}
+use Rattle.cgx_spec.specs.declared.Kind.{Kind}
+use Rattle.cgx_format_kinds.specs.declared.Fields.{Fields}
+use Rattle.buffers.specs.Put.{put}
+use Rattle.cgx_read_fields.specs.Views.{ReadAt}
+use Rattle.cgx_c_views.specs.ViewWords.{fieldWords}
+
+-- Of the record of `size` bytes at an offset of f: from the words w₀ of a view to the words w₁.
+pub record Filled (k : Kind) (fl : ℕ) (f : List ℕ) (at size : ℕ) (w₀ w₁ : List ℕ) : Type 0 where
+  -- There are fields that are the record's,
+  pub fields : Fields
+  pub read : ReadAt k fl f at size fields
+  -- and their words are stored after the nine that every kind has.
+  pub words : w₁ ≡ put w₀ 9 (fieldWords fields)

@@ -1,0 +1,24 @@
+-- What is proved of the makers: what they append is what the calls append one after another, so that the writer's round trip speaks of it. Statements only.
+use mathlib.Core.Path.{_≡_}
+use mathlib.Core.List.{List, [], _∷_, _++_}
+use Prim.Native.Nat.{ℕ}
+use lib.IntN.{ℤ}
+use Rattle.cgx_spec.specs.Numbers.{Bytes}
+use Rattle.cgx_write_given.specs.declared.Writer.{Writer}
+use Rattle.cgx_write_given.specs.Given.{Given}
+use Rattle.cgx_write_given.specs.Typed.{Longs, AllWell}
+use Rattle.cgx_write_given.specs.Writing.{callIn, calls}
+use Rattle.cgx_write_makers.specs.Makers.{cardCalls, frameCalls, allIn}
+
+pub record MakersDemand : Type 0 where
+  -- All of it: where a maker's records are taken, after any calls, each is taken by a call of its own, and writer and buffer are those of the calls.
+  pub all : (buf : List ℕ) (w : Writer) (before gs : List Given) → let h = calls buf w before in let o = allIn (h .buffer) (h .writer) gs in
+      o .answer .number ≡ 0 → calls buf w (before ++ gs) ≡ record { taken = h .taken ++ gs; writer = o .answer .writer; buffer = o .buffer }
+  -- Or nothing: no byte changes, and the old writer is handed back.
+  pub nothing : (buf : List ℕ) (w : Writer) (gs : List Given) → let o = allIn buf w gs in (o .answer .number ≡ 0 → ⊥) → (o .buffer ≡ buf) × (o .answer .writer ≡ w)
+  -- The first refusal is answered: that of the first record that the calls, taken in turn, refuse.
+  pub first : (buf : List ℕ) (w : Writer) (before gs : List Given) (g : Given) → let h = calls buf w before in let a = callIn (h .buffer) (h .writer) g .answer in
+      h .taken ≡ before → (a .number ≡ 0 → ⊥) → allIn buf w (before ++ (g ∷ gs)) ≡ record { answer = record { number = a .number; at = a .at; writer = w }; buffer = buf }
+  -- What the makers give is well typed, as `any-calls` of the writer's round trip asks; each maker ensures it (`ensures typed`).
+  pub card : (left bottom right top : ℤ) → Longs (left ∷ bottom ∷ right ∷ top ∷ []) → AllWell (cardCalls left bottom right top)
+  pub frame : (left bottom right top : ℤ) (label : List ℕ) → Longs (left ∷ bottom ∷ right ∷ top ∷ []) → Bytes label → AllWell (frameCalls left bottom right top label)
