@@ -1,7 +1,7 @@
 //! Links the archive of the proved crates, and compiles the plain C that it is
 //! measured against.
 //!
-//! The archive stands where the kit's build leaves it, beside this folder;
+//! The archive is where the kit's build leaves it, beside this folder;
 //! CGX_ARCHIVE names another one. CC names another C compiler.
 
 use std::env;
@@ -28,7 +28,7 @@ fn archive() -> PathBuf {
 }
 
 fn link_archive(archive: &Path) {
-    let folder = archive.parent().expect("a file stands in a folder");
+    let folder = archive.parent().expect("a file is in a folder");
     let name = archive.file_name().expect("a file has a name");
     println!("cargo:rerun-if-changed={}", archive.display());
     println!("cargo:rustc-link-search=native={}", folder.display());
