@@ -403,6 +403,35 @@ static void forged(void) {
     drop(file);
 }
 
+/* ---- made-up places: offset 0 and a run of none are taken for none */
+
+/* At the BOX of a file, with `change` to a place that is otherwise true. */
+static cgx_step_answer from_box(blob file, void (*change)(cgx_place *), cgx_view *view) {
+    cgx_place place = cgx_start(file.bytes, file.size).place, before = place;
+    while (cgx_step(file.bytes, file.size, &place, view).status == CGX_STEP_RECORD && view->kind != CGX_BOX) before = place;
+    change(&before);
+    return cgx_step(file.bytes, file.size, &before, view);
+}
+
+static void cell_at_0(cgx_place *place) { place->cell.at = 0; }
+static void layer_at_0(cgx_place *place) { place->layer.at = 0; }
+static void run_of_none(cgx_place *place) {
+    place->run.present = true;
+    place->run.first = 4;
+    place->run.count = 0;
+}
+
+static void none(void) {
+    blob file = hex(every_kind);
+    cgx_view view;
+    cgx_step_answer cell = from_box(file, cell_at_0, &view), layer = from_box(file, layer_at_0, &view), run;
+    expect(cell.status == CGX_STEP_REFUSED && cell.number == CGX_REFUSED_ORDER, "0 is none", "no cell");
+    expect(layer.status == CGX_STEP_REFUSED && layer.number == CGX_REFUSED_ORDER, "0 is none", "no layer");
+    run = from_box(file, run_of_none, &view);
+    expect(run.status == CGX_STEP_RECORD && view.kind == CGX_BOX && !view.run.present, "0 is none", "no run");
+    drop(file);
+}
+
 /* ---- lists and texts that are made up */
 
 static void made_up(void) {
@@ -522,6 +551,7 @@ void test_reading(void) {
     read_again();
     nano();
     forged();
+    none();
     made_up();
     layers();
     extents();

