@@ -12,15 +12,6 @@ use numbers::word_of;
 
 // ---- numbers, the high byte first
 
-// Only a record's size is unsigned.
-pub fn put_unsigned(out: &mut [u8], at: usize, n: u16)
-    requires { ⌜ at + 2 ≤ length (now out) ⌝ }
-    ensures { λ _. ⌜ now (out .exit) ≡ put (now (out .entry)) at (digits 2 n) ⌝ }
-{
-    let b = [(n / 256 % 256) as u8, (n % 256) as u8];
-    put_each(out, at, &b);
-}
-
 pub fn put_short(out: &mut [u8], at: usize, n: i16)
     requires { ⌜ at + 2 ≤ length (now out) ⌝ }
     ensures { λ _. ⌜ now (out .exit) ≡ put (now (out .entry)) at (shortBytes n) ⌝ }

@@ -1,6 +1,4 @@
-// The types that the definitions in specs/ and all code above share.
-ghost use mathlib.Core.Path.{_≡_};
-ghost use Rattle.cgx_spec.specs.Walking.{firstPlace};
+// The types of the definitions in specs/, which all code above shares, but for Context, Need and Place: code has a cursor in their stead (`cgx_format_cursor`).
 
 // The eleven kinds of record, in the order of their type bytes 0 to 10.
 pub enum Kind {
@@ -66,25 +64,6 @@ pub enum Need {
 pub struct Place {
     pub at: usize,
     pub context: Context,
-}
-
-impl Place {
-    // The start of a walk: after the first four bytes, with nothing read.
-    pub fn start() -> Place
-        ensures { λ r. ⌜ r ≡ firstPlace ⌝ }
-    {
-        Place {
-            at: 4,
-            context: Context {
-                library: false,
-                cell: Offset::Nowhere,
-                layer: Offset::Nowhere,
-                fresh: false,
-                run: Run::Empty,
-                ended: false,
-            },
-        }
-    }
 }
 
 // What is said of a whole file.
