@@ -7,7 +7,7 @@ use Rattle.cgx_spec.specs.Fields.{fits, width, ruleOf, good, pieces, lengthsFit
 use Rattle.cgx_spec.specs.Kinds.{layout}
 use Rattle.cgx_spec.specs.Records.{piecesOf}
 use Rattle.cgx_spec.specs.Files.{cutBody, cut}
-use Rattle.cgx_ask_layer_name.specs.declared.NameAnswer.the-variants.{OfFile, OfSubstitute}
+use Rattle.cgx_ask_layer_name.specs.declared.NameAnswer.the-variants.{NoLayer, OfFile, OfSubstitute}
 use Rattle.cgx_ask_layer_name.specs.Layers.{keptLayer, cutLayer, goodLayer, nameIn, named, nameAnswerOf}
 
 -- A LAYER of this size with these bytes of a name, at offset 4.
@@ -15,11 +15,11 @@ abbrev file : ℕ → List ℕ → List ℕ
 file n name = 0 ∷ 0 ∷ 0 ∷ 0 ∷ 0 ∷ n ∷ 4 ∷ 0 ∷ 0 ∷ 1 ∷ 0 ∷ 0 ∷ name
 
 pub record Examples : Type 0 where
-  pub of-two : nameAnswerOf (file 12 (0x61 ∷ 0x62 ∷ 0 ∷ 0 ∷ [])) 4 9 ≡ OfFile 12 2
-  pub empty : nameAnswerOf (file 10 (0 ∷ 0 ∷ [])) 4 9 ≡ OfSubstitute 9
-  pub absent : nameAnswerOf (file 8 []) 4 9 ≡ OfSubstitute 9
-  pub no-string : nameAnswerOf (file 12 (0x61 ∷ 0 ∷ 0 ∷ 0 ∷ [])) 4 9 ≡ OfSubstitute 0
-  pub beyond : nameAnswerOf (file 8 []) 14 9 ≡ OfSubstitute 0
+  pub of-two : nameAnswerOf (file 12 (0x61 ∷ 0x62 ∷ 0 ∷ 0 ∷ [])) 4 ≡ OfFile 12 2
+  pub empty : nameAnswerOf (file 10 (0 ∷ 0 ∷ [])) 4 ≡ OfSubstitute
+  pub absent : nameAnswerOf (file 8 []) 4 ≡ OfSubstitute
+  pub no-string : nameAnswerOf (file 12 (0x61 ∷ 0 ∷ 0 ∷ 0 ∷ [])) 4 ≡ NoLayer
+  pub beyond : nameAnswerOf (file 8 []) 14 ≡ NoLayer
 
 pub examples : Examples
 unfolding textOf padded same goodString fits width ruleOf good pieces lengthsFit keeps layout piecesOf cutBody cut keptLayer cutLayer goodLayer nameIn named nameAnswerOf

@@ -31,7 +31,7 @@ use Rattle.cgx_format_kinds.specs.Meant.{spanText, nameText, fieldValues}
 use Rattle.cgx_read_fields.specs.Views.{piecesAt, valuesAt, TextAt, NameAt, FieldsAt, ReadAlike, OptionalAt}
 use Rattle.cgx_read_fields.proofs.Ready.{layer-ready}
 use Rattle.cgx_ask_layer_name.specs.declared.NameAnswer.{NameAnswer}
-use Rattle.cgx_ask_layer_name.specs.declared.NameAnswer.the-variants.{OfFile, OfSubstitute}
+use Rattle.cgx_ask_layer_name.specs.declared.NameAnswer.the-variants.{NoLayer, OfFile, OfSubstitute}
 use Rattle.cgx_ask_layer_name.specs.Layers.{keptLayer, cutLayer, goodLayer, layerAnswer, nameIn, named, nameAnswerOf, nameAnswerText, nameAnswerPtr, NameAnswerInside, LayerAt, LayerSizeIs, isLayer}
 
 -- ---- the rules 8 to 12 of a LAYER: 9, 10 and 12 have nothing to say
@@ -192,9 +192,9 @@ module _ (f : List ℕ) (at : ℕ) {n : ℕ} (s : LayerSizeIs f at n) where
   unfolding layerAnswer
   answer-0 h = sym (ap (λ (x : Bool). cond x 0 16) (one-there h .kept))
 
-  pub none-shown : n ≡ 0 → (m : ℕ) → (OfSubstitute 0 ≡ nameAnswerOf f at m) × NameAnswerInside f m (OfSubstitute 0)
+  pub none-shown : n ≡ 0 → (NoLayer ≡ nameAnswerOf f at) × NameAnswerInside f NoLayer
   unfolding nameAnswerOf NameAnswerInside
-  none-shown e m = (sym (ap (λ (x : Bool). cond x (named (at + 8) (length (nameIn (cut (drop at f)))) m) (OfSubstitute 0)) (none-there e)), omega arith)
+  none-shown e = (sym (ap (λ (x : Bool). cond x (named (at + 8) (length (nameIn (cut (drop at f))))) NoLayer) (none-there e)), tt)
 
 -- ---- its name
 
@@ -231,23 +231,23 @@ module _ (f : List ℕ) (at n : ℕ) (a : LayerAt f at n) where
       (ap (λ (k : ℕ). drop 4 (take k (drop (at + 4) f))) e ∙ drop-take 4 (n - 8) (drop (at + 4) f) (omega (arith, length-drop (at + 4) f))
       ∙ ap (take (n - 8)) (drop-drop 4 (at + 4) f ∙ ap (λ (k : ℕ). drop k f) z))
 
-  module _ (m : ℕ) {len : ℕ} (e : (len ≡ length (textOf (take (n - 8) (drop (at + 8) f)))) × (len ≤ n - 8)) where
-    shown-is : nameAnswerOf f at m ≡ named (at + 8) len m
+  module _ {len : ℕ} (e : (len ≡ length (textOf (take (n - 8) (drop (at + 8) f)))) × (len ≤ n - 8)) where
+    shown-is : nameAnswerOf f at ≡ named (at + 8) len
     unfolding nameAnswerOf
     shown-is =
-        ap (λ (x : Bool). cond x (named (at + 8) (length (nameIn (cut (drop at f)))) m) (OfSubstitute 0)) (a .kept)
-        ∙ ap (λ (t : List ℕ). named (at + 8) (length t) m) name-is
-        ∙ ap (λ (k : ℕ). named (at + 8) k m) (sym (e .0))
+        ap (λ (x : Bool). cond x (named (at + 8) (length (nameIn (cut (drop at f))))) NoLayer) (a .kept)
+        ∙ ap (λ (t : List ℕ). named (at + 8) (length t)) name-is
+        ∙ ap (named (at + 8)) (sym (e .0))
 
-    empty-shown : len ≡ 0 → (OfSubstitute m ≡ nameAnswerOf f at m) × NameAnswerInside f m (OfSubstitute m)
+    empty-shown : len ≡ 0 → (OfSubstitute ≡ nameAnswerOf f at) × NameAnswerInside f OfSubstitute
     unfolding named NameAnswerInside
-    empty-shown z = (sym (shown-is ∙ ap (λ (k : ℕ). named (at + 8) k m) z), omega arith)
+    empty-shown z = (sym (shown-is ∙ ap (named (at + 8)) z), tt)
 
-    name-shown : {to : ℕ} → to ≡ at + 8 → (len ≡ 0 → ⊥) → (OfFile to len ≡ nameAnswerOf f at m) × NameAnswerInside f m (OfFile to len)
+    name-shown : {to : ℕ} → to ≡ at + 8 → (len ≡ 0 → ⊥) → (OfFile to len ≡ nameAnswerOf f at) × NameAnswerInside f (OfFile to len)
     unfolding named NameAnswerInside
     name-shown w z = (sym (shown-is ∙ go len z ∙ ap (λ (k : ℕ). OfFile k len) (sym w)), let r = layer-room in let l = e .1 in omega arith)
       where
-        go : (k : ℕ) → (k ≡ 0 → ⊥) → named (at + 8) k m ≡ OfFile (at + 8) k
+        go : (k : ℕ) → (k ≡ 0 → ⊥) → named (at + 8) k ≡ OfFile (at + 8) k
         go zero y = absurd (y refl)
         go (suc k) y = refl
 
@@ -280,28 +280,29 @@ module _ (f : List ℕ) (at n : ℕ) (a : LayerAt f at n) where
         let k : length (take (s .len) (drop (s .at) f)) ≡ s .len = length-take-le (s .len) (drop (s .at) f) (omega (arith, length-drop (s .at) f)) in
         (x, sym k ∙ ap (λ (v : Name). lengthIn (nameText f v)) (sym q) ∙ name-length, omega arith)
 
-    pub absent-shown : (m : ℕ) → l .name ≡ Absent → (OfSubstitute m ≡ nameAnswerOf f at m) × NameAnswerInside f m (OfSubstitute m)
-    absent-shown m q = empty-shown m (absent-name q) refl
+    pub absent-shown : l .name ≡ Absent → (OfSubstitute ≡ nameAnswerOf f at) × NameAnswerInside f OfSubstitute
+    absent-shown q = empty-shown (absent-name q) refl
 
-    pub empty-name-shown : (m : ℕ) {s : TextSpan} → l .name ≡ Present s → s .len ≡ 0 → (OfSubstitute m ≡ nameAnswerOf f at m) × NameAnswerInside f m (OfSubstitute m)
-    empty-name-shown m q z = empty-shown m (present-name q .1, present-name q .2) z
+    pub empty-name-shown : {s : TextSpan} → l .name ≡ Present s → s .len ≡ 0 → (OfSubstitute ≡ nameAnswerOf f at) × NameAnswerInside f OfSubstitute
+    empty-name-shown q z = empty-shown (present-name q .1, present-name q .2) z
 
-    pub present-shown : (m : ℕ) {s : TextSpan} → l .name ≡ Present s → (s .len ≡ 0 → ⊥) → (OfFile (s .at) (s .len) ≡ nameAnswerOf f at m) × NameAnswerInside f m (OfFile (s .at) (s .len))
-    present-shown m q z = name-shown m (present-name q .1, present-name q .2) (present-name q .0) z
+    pub present-shown : {s : TextSpan} → l .name ≡ Present s → (s .len ≡ 0 → ⊥) → (OfFile (s .at) (s .len) ≡ nameAnswerOf f at) × NameAnswerInside f (OfFile (s .at) (s .len))
+    present-shown q z = name-shown (present-name q .1, present-name q .2) (present-name q .0) z
 
 -- ---- the part that is shown
 
-module _ (f : List ℕ) (n : ℕ) (r : NameAnswer) (i : NameAnswerInside f n r) where
-  pub in-file : {at len : ℕ} → r ≡ OfFile at len → at + len ≤ length f
-  unfolding NameAnswerInside
-  in-file q = subst (NameAnswerInside f n) q i
-
-  pub in-substitute : {len : ℕ} → r ≡ OfSubstitute len → len ≤ n
-  unfolding NameAnswerInside
-  in-substitute q = subst (NameAnswerInside f n) q i
+pub in-file : (f : List ℕ) (r : NameAnswer) → NameAnswerInside f r → {at len : ℕ} → r ≡ OfFile at len → at + len ≤ length f
+unfolding NameAnswerInside
+in-file f r i q = subst (NameAnswerInside f) q i
 
 -- s is what is shown; its bytes as code cuts them, and its pointer
 module _ (f t : List ℕ) (p o : ℕ × ℕ) {r s : NameAnswer} (e : r ≡ s) where
+  pub of-none : r ≡ NoLayer → (take (0 - 0) (drop 0 t) ≡ nameAnswerText f t s) × (_≡_ {A = ℕ × ℕ} (o .0, 0 + o .1) (nameAnswerPtr p o s))
+  unfolding nameAnswerText nameAnswerPtr
+  of-none q =
+      let w : 0 + o .1 ≡ o .1 = omega arith in
+      let y = sym (sym e ∙ q) in (ap (nameAnswerText f t) y, ap (λ (k : ℕ). (o .0, k)) w ∙ ap (nameAnswerPtr p o) y)
+
   pub of-file : {at len : ℕ} → r ≡ OfFile at len → (take (at + len - at) (drop at f) ≡ nameAnswerText f t s) × (_≡_ {A = ℕ × ℕ} (p .0, at + p .1) (nameAnswerPtr p o s))
   unfolding nameAnswerText nameAnswerPtr
   of-file {at} {len} q =
@@ -312,12 +313,6 @@ module _ (f t : List ℕ) (p o : ℕ × ℕ) {r s : NameAnswer} (e : r ≡ s) wh
         ap (λ (k : ℕ). (p .0, k)) w ∙ ap (nameAnswerPtr p o) y,
       )
 
-  pub of-substitute : {len : ℕ} → r ≡ OfSubstitute len → (take (len - 0) (drop 0 t) ≡ nameAnswerText f t s) × (_≡_ {A = ℕ × ℕ} (o .0, 0 + o .1) (nameAnswerPtr p o s))
+  pub of-substitute : r ≡ OfSubstitute → (t ≡ nameAnswerText f t s) × (_≡_ {A = ℕ × ℕ} o (nameAnswerPtr p o s))
   unfolding nameAnswerText nameAnswerPtr
-  of-substitute {len} q =
-      let z : len - 0 ≡ len = omega arith in
-      let w : 0 + o .1 ≡ o .1 = omega arith in
-      let y = sym (sym e ∙ q) in (
-        ap (λ (k : ℕ). take k t) z ∙ ap (nameAnswerText f t) y,
-        ap (λ (k : ℕ). (o .0, k)) w ∙ ap (nameAnswerPtr p o) y,
-      )
+  of-substitute q = let y = sym (sym e ∙ q) in (ap (nameAnswerText f t) y, ap (nameAnswerPtr p o) y)

@@ -15,7 +15,7 @@ use Rattle.cgx_spec.specs.Files.{Cut, bad, found, cut}
 use Rattle.cgx_spec.specs.Walking.{recAt}
 use Rattle.cgx_read_fields.specs.Views.{Readable}
 use Rattle.cgx_ask_layer_name.specs.declared.NameAnswer.{NameAnswer}
-use Rattle.cgx_ask_layer_name.specs.declared.NameAnswer.the-variants.{OfFile, OfSubstitute}
+use Rattle.cgx_ask_layer_name.specs.declared.NameAnswer.the-variants.{NoLayer, OfFile, OfSubstitute}
 
 -- ---- a good LAYER
 
@@ -44,30 +44,32 @@ nameIn (bad n) = []
 nameIn (found r bs) = textOf (drop 4 (r .body))
 
 -- A name of so many bytes, at an offset of the file; "the whole substitute where the name is absent or empty".
-unfoldable pub named : ℕ → ℕ → ℕ → NameAnswer
-named at zero n = OfSubstitute n
-named at (suc k) n = OfFile at (suc k)
+unfoldable pub named : ℕ → ℕ → NameAnswer
+named at zero = OfSubstitute
+named at (suc k) = OfFile at (suc k)
 
--- Of a file, an offset and the length of the substitute. No good LAYER: "the empty beginning of the substitute".
-unfoldable pub nameAnswerOf : List ℕ → ℕ → ℕ → NameAnswer
-nameAnswerOf f at n = cond (goodLayer f at) (named (at + 8) (length (nameIn (cut (drop at f)))) n) (OfSubstitute 0)
+unfoldable pub nameAnswerOf : List ℕ → ℕ → NameAnswer
+nameAnswerOf f at = cond (goodLayer f at) (named (at + 8) (length (nameIn (cut (drop at f))))) NoLayer
 
--- The text that is shown, of the file and the substitute.
+-- The text that is shown, of the file and the substitute. No good LAYER: "the empty beginning of the substitute".
 unfoldable pub nameAnswerText : List ℕ → List ℕ → NameAnswer → List ℕ
+nameAnswerText f s NoLayer = []
 nameAnswerText f s (OfFile at len) = take len (drop at f)
-nameAnswerText f s (OfSubstitute len) = take len s
+nameAnswerText f s OfSubstitute = s
 
 -- Where it is: a pointer is a block and an offset in it.
 unfoldable pub nameAnswerPtr : ℕ × ℕ → ℕ × ℕ → NameAnswer → ℕ × ℕ
+nameAnswerPtr f s NoLayer = s
 nameAnswerPtr f s (OfFile at len) = (f .0, f .1 + at)
-nameAnswerPtr f s (OfSubstitute len) = s
+nameAnswerPtr f s OfSubstitute = s
 
 -- ---- what the functions hand on
 
--- The part that is shown lies in its text, a file or n bytes.
-unfoldable pub NameAnswerInside : List ℕ → ℕ → NameAnswer → Type 0
-NameAnswerInside f n (OfFile at len) = at + len ≤ length f
-NameAnswerInside f n (OfSubstitute len) = len ≤ n
+-- A part of the file that is shown lies in it.
+unfoldable pub NameAnswerInside : List ℕ → NameAnswer → Type 0
+NameAnswerInside f NoLayer = Unit {0}
+NameAnswerInside f (OfFile at len) = at + len ≤ length f
+NameAnswerInside f OfSubstitute = Unit {0}
 
 -- A good LAYER of n bytes.
 pub record LayerAt (f : List ℕ) (at n : ℕ) : Type 0 where

@@ -1,7 +1,6 @@
 // The name shown for a layer: a part of the file, or of a substitute text that the caller lends.
 ghost use mathlib.Core.Path.{_≡_};
 ghost use mathlib.Core.Option.{some};
-ghost use lib.ListN.{length};
 ghost use Rattle.cgx_format_headers.specs.Headers.{kindIn};
 ghost use Rattle.cgx_ask_layer_name.specs.Layers.{layerAnswer, nameAnswerOf, nameAnswerText, nameAnswerPtr, NameAnswerInside, LayerSizeIs, isLayer};
 use cgx_format_headers::Headed;
@@ -12,10 +11,11 @@ use cgx_format_records::body_fault;
 use cgx_read_fields::layer_of;
 use cgx_spec::Kind;
 
-// Which of the two texts is shown, and how much of it: of the file from an offset on, of the substitute from its beginning.
+// What is shown: no layer's name, a part of the file, or the whole substitute.
 pub enum NameAnswer {
+    NoLayer,
     OfFile { at: usize, len: usize },
-    OfSubstitute { len: usize },
+    OfSubstitute,
 }
 
 // Whether there is a good LAYER at an offset: 0, or 16 where none does.
@@ -27,41 +27,38 @@ pub fn layer_at(file: &[u8], at: usize) -> u8
 }
 
 // The name shown for the layer at an offset. The promise has its bytes, and its place: it is the very part of the file or of the
-// substitute that `layer_name_at` tells.
+// substitute that `layer_name_at` tells; where there is no good LAYER, the empty beginning of the substitute.
 pub fn layer_name<'a>(file: &'a [u8], at: usize, substitute: &'a [u8]) -> &'a [u8]
-    ensures { λ r. ⌜ now r ≡ nameAnswerText (now (file .entry)) (now (substitute .entry)) (nameAnswerOf (now (file .entry)) at (length (now (substitute .entry)))) ⌝ }
-    ensures place { λ r. ⌜ r .ptr ≡ nameAnswerPtr (file .entry .ptr) (substitute .entry .ptr) (nameAnswerOf (now (file .entry)) at (length (now (substitute .entry)))) ⌝ }
+    ensures { λ r. ⌜ now r ≡ nameAnswerText (now (file .entry)) (now (substitute .entry)) (nameAnswerOf (now (file .entry)) at) ⌝ }
+    ensures place { λ r. ⌜ r .ptr ≡ nameAnswerPtr (file .entry .ptr) (substitute .entry .ptr) (nameAnswerOf (now (file .entry)) at) ⌝ }
 {
-    let shown = layer_name_at(file, at, substitute);
+    let shown = layer_name_at(file, at);
     match shown {
+        NameAnswer::NoLayer => &substitute[0..0],
         NameAnswer::OfFile { at: from, len } => {
             let end = from + len;
             &file[from..end]
         }
-        NameAnswer::OfSubstitute { len } => &substitute[0..len],
+        NameAnswer::OfSubstitute => substitute,
     }
 }
 
 // The same, told by offset and length.
-pub fn layer_name_at(file: &[u8], at: usize, substitute: &[u8]) -> NameAnswer
-    ensures { λ r. ⌜ r ≡ nameAnswerOf (now (file .entry)) at (length (now (substitute .entry))) ⌝ }
-    ensures inside { λ r. ⌜ NameAnswerInside (now (file .entry)) (length (now (substitute .entry))) r ⌝ }
+pub fn layer_name_at(file: &[u8], at: usize) -> NameAnswer
+    ensures { λ r. ⌜ r ≡ nameAnswerOf (now (file .entry)) at ⌝ }
+    ensures inside { λ r. ⌜ NameAnswerInside (now (file .entry)) r ⌝ }
 {
     let size = layer_size(file, at);
     if size == 0 {
-        return NameAnswer::OfSubstitute { len: 0 };
+        return NameAnswer::NoLayer;
     }
     let layer = layer_of(file, at, size);
     let name = layer.name;
     match name {
-        Name::Absent => NameAnswer::OfSubstitute {
-            len: substitute.len(),
-        },
+        Name::Absent => NameAnswer::OfSubstitute,
         Name::Present(text) => {
             if text.len == 0 {
-                return NameAnswer::OfSubstitute {
-                    len: substitute.len(),
-                };
+                return NameAnswer::OfSubstitute;
             }
             NameAnswer::OfFile {
                 at: text.at,

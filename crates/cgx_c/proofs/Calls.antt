@@ -1,17 +1,17 @@
--- What a call of the writer does and answers, as C has it. Assumes nothing.
+-- What a call of the writer does and answers, as it is left in lent memory. Assumes nothing.
 use mathlib.Core.Path.{_≡_, ap, _∙_}
 use mathlib.Core.List.{List}
 use Prim.Native.Nat.{ℕ}
+use Rattle.cgx_format_cursor.specs.Cursors.{offsetIn}
+use Rattle.cgx_c_places.specs.Words.{toldAt}
 use Rattle.cgx_write_given.specs.declared.Writer.{Writer}
 use Rattle.cgx_write_given.specs.declared.Answer.{Answer}
 use Rattle.cgx_write_given.specs.Writing.{Outcome, Begun}
-use Rattle.cgx_c_answers.specs.declared.PlainStart.{PlainStart}
-use Rattle.cgx_c_answers.specs.declared.PlainAnswer.{PlainAnswer}
-use Rattle.cgx_c_answers.specs.Answers.{plainBegun, plainAnswer, sentStart, sent}
+use Rattle.cgx_c_writer.specs.Lent.{writerIn, wordsAfter, lent, startWords, lentStart}
 
--- `f` is what the call does for each writer.
-pub called : (f : Writer → Outcome) (b : List ℕ) {x : PlainAnswer} {a : Answer} {v w : Writer} → x ≡ plainAnswer a → v ≡ w → record { answer = a; buffer = b } ≡ f v → record { answer = x; buffer = b } ≡ sent (f w)
-called f b e s h = ap (λ (y : PlainAnswer). record { answer = y; buffer = b }) e ∙ ap sent (h ∙ ap f s)
+-- `f` is what the call does for each writer; the words w, `at` and the answer a become x, t and r.
+pub called : (f : Writer → Outcome) (w : List ℕ) (at : ℕ) (b : List ℕ) {x : List ℕ} {t r : ℕ} {a : Answer} {v : Writer} → (r ≡ a .number) × (x ≡ wordsAfter w a) × (t ≡ toldAt (offsetIn (a .at)) at) → v ≡ writerIn w → record { answer = a; buffer = b } ≡ f v → record { number = r; writer = x; at = t; buffer = b } ≡ lent w at (f (writerIn w))
+called f w at b s e h = (λ i. record { number = s .0 i; writer = s .1 i; at = s .2 i; buffer = b }) ∙ ap (lent w at) (h ∙ ap f e)
 
-pub begun : (o : Begun) (b : List ℕ) {x : PlainStart} {n : ℕ} → x ≡ plainBegun n → record { answer = n; buffer = b } ≡ o → record { answer = x; buffer = b } ≡ sentStart o
-begun o b e h = ap (λ (y : PlainStart). record { answer = y; buffer = b }) e ∙ ap sentStart h
+pub begun : (o : Begun) (w b : List ℕ) {x : List ℕ} {r n : ℕ} → (r ≡ n) × (x ≡ startWords w n) → record { answer = n; buffer = b } ≡ o → record { number = r; writer = x; buffer = b } ≡ lentStart w o
+begun o w b s h = (λ i. record { number = s .0 i; writer = s .1 i; buffer = b }) ∙ ap (lentStart w) h

@@ -1,2 +1,2 @@
--- `Calls`: what a call does, told by plain structs.
+-- `Calls`: what a call does, left in lent memory.
 pub mod Calls

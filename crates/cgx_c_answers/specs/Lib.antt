@@ -1,4 +1,2 @@
--- What plain answers mean, what a step leaves in lent memory, and what the place that a writer hands back is to the next call.
-pub mod Answers
-pub mod Lent
-pub mod Demand
+-- What the answers of the library are to a C caller.
+pub mod Told

@@ -1,7 +1,9 @@
 -- Fields that are read and stored are those of the record, by the kind that it is. Assumes nothing.
-use mathlib.Core.Path.{_≡_, sym, ap, _∙_, subst}
-use mathlib.Core.List.{List, _∷_}
-use Prim.Native.Nat.{ℕ}
+use mathlib.Core.Path.{_≡_, refl, sym, ap, _∙_, subst}
+use mathlib.Core.List.{List, _∷_, _++_}
+use mathlib.Core.Bool.{Bool, true, false, cond}
+use Prim.Native.Nat.{ℕ, _+_, _-_}
+use lib.ListN.{take, drop}
 use lib.IntN.{ℤ}
 use Rattle.cgx_spec.specs.declared.Kind.{Kind}
 use Rattle.cgx_spec.specs.declared.Kind.the-variants as kinds
@@ -10,20 +12,80 @@ use Rattle.cgx_format_kinds.specs.declared.Fields.{Fields}
 use Rattle.cgx_format_kinds.specs.declared.Fields.the-variants as fields
 use Rattle.buffers.specs.Put.{put}
 use Rattle.buffers.proofs.Puts.{put-nil}
-use Rattle.cgx_read_fields.specs.Views.{ReadAt}
+use Rattle.cgx_spec.specs.Numbers.{longOf}
+use Rattle.cgx_spec.specs.Fields.{date, string, value}
+use Rattle.cgx_format_kinds.specs.declared.Date.{Date}
+use Rattle.cgx_format_kinds.specs.declared.Point.{Point}
+use Rattle.cgx_format_kinds.specs.declared.OptionalReal.{OptionalReal}
+use Rattle.cgx_format_kinds.specs.declared.OptionalReal.the-variants.{Missing, Given}
+use Rattle.cgx_format_kinds.specs.declared.Array.{Array}
+use Rattle.cgx_format_kinds.specs.Meant.{spanText, dateNumbers, optionalValue}
+use Rattle.cgx_format_sref.specs.declared.SrefLayout.{SrefLayout}
+use Rattle.cgx_format_sref.specs.Layouts.{srefLayout}
+use Rattle.cgx_read_fields.specs.Views.{ReadAt, TextAt, StringAt, wordAt, realAt, AnswerAt, realIf, ArrayIs}
+use Rattle.cgx_read_fields.proofs.Parts.{real-value}
 use Rattle.cgx_read_fields.proofs.Ready.{endlib-read}
-use Rattle.cgx_c_views.specs.ViewWords.{longBits, spanWords, fieldWords}
-use Rattle.cgx_c_fields.specs.Fill.{Filled}
+use Rattle.cgx_read_fields.proofs.Libraries.{library-by}
+use Rattle.cgx_read_fields.proofs.Srefs.{Room, sref-by}
+use Rattle.cgx_c_views.specs.ViewWords.{longBits, pointWord, dateWord, spanWords, arrayWords, optionalWord, fieldWords}
+use Rattle.cgx_c_fields.specs.Fill.{Filled, FilledAlike}
 
 module _ {k j : Kind} {fl : ℕ} {f : List ℕ} {at size : ℕ} {w₀ w₁ : List ℕ} (e : k ≡ j) (fs : Fields) where
-  pub filled : ReadAt j fl f at size fs → w₁ ≡ put w₀ 9 (fieldWords fs) → Filled k fl f at size w₀ w₁
+  pub filled : ReadAt j fl f at size fs → w₁ ≡ put w₀ 6 (fieldWords f fl at fs) → Filled k fl f at size w₀ w₁
   filled r q = record { fields = fs; read = subst (λ (x : Kind). ReadAt x fl f at size fs) (sym e) r; words = q }
 
+-- those of a kind that is told
+pub filled-as : {k j : Kind} {fl : ℕ} {f : List ℕ} {at size : ℕ} {w₀ w₁ : List ℕ} → k ≡ j → Filled j fl f at size w₀ w₁ → Filled k fl f at size w₀ w₁
+filled-as e d = filled e (d .fields) (d .read) (d .words)
+
 -- a number that is handed on is the number
-pub numbered : (w₀ : List ℕ) {w₁ : List ℕ} {x y : ℤ} (s : TextSpan) → x ≡ y → w₁ ≡ put w₀ 9 (longBits x ∷ spanWords s) → w₁ ≡ put w₀ 9 (longBits y ∷ spanWords s)
-numbered w₀ s e q = q ∙ ap (λ (z : ℤ). put w₀ 9 (longBits z ∷ spanWords s)) e
+pub numbered : (w₀ : List ℕ) {w₁ : List ℕ} {x y : ℤ} (s : TextSpan) → x ≡ y → w₁ ≡ put w₀ 6 (longBits x ∷ spanWords s) → w₁ ≡ put w₀ 6 (longBits y ∷ spanWords s)
+numbered w₀ s e q = q ∙ ap (λ (z : ℤ). put w₀ 6 (longBits z ∷ spanWords s)) e
 
 -- nothing is stored of an ENDLIB
 pub none-filled : {k : Kind} (fl : ℕ) (f : List ℕ) (at size : ℕ) (w : List ℕ) → k ≡ kinds.Endlib → Filled k fl f at size w w
 unfolding fieldWords
-none-filled fl f at size w e = filled e fields.Endlib (endlib-read fl f at size) (sym (put-nil w 9))
+none-filled fl f at size w e = filled e fields.Endlib (endlib-read fl f at size) (sym (put-nil w 6))
+
+-- ---- the two kinds with reals, which are the answers of the words that are stored
+
+pub library-filled : (f : List ℕ) (at size : ℕ) (w₀ w₁ : List ℕ) → StringAt f (at + 36) (size - 36) → (m u : ℕ) (c d : Date) (t : TextSpan)
+    → m ≡ wordAt f (at + 4) → u ≡ wordAt f (at + 12)
+    → dateNumbers c ≡ value date (take 8 (drop (at + 20) f)) → dateNumbers d ≡ value date (take 8 (drop (at + 28) f))
+    → (spanText f t ≡ value string (take (size - 36) (drop (at + 36) f))) × TextAt (at + 36) (at + 36 + (size - 36)) t
+    → w₁ ≡ put w₀ 6 (m ∷ u ∷ dateWord c ∷ dateWord d ∷ spanWords t)
+    → FilledAlike kinds.Library f at size w₀ w₁
+unfolding fieldWords
+library-filled f at size w₀ w₁ s m u c d t em eu ec ed et q fl =
+    filled refl (fields.Library (record { munit = realAt f (at + 4); uunit = realAt f (at + 12); created = c; modified = d; name = t }))
+    (library-by f at size s (realAt f (at + 4)) (realAt f (at + 12)) c d t refl refl ec ed et fl)
+    (q ∙ rw (em, eu) refl)
+
+-- a real that may not be there
+abbrev optional : Bool → List ℕ → ℕ → OptionalReal
+optional b f at = cond b (Given (realAt f at)) Missing
+
+optional-read : (b : Bool) (f : List ℕ) (at : ℕ) → (optionalValue (optional b f at) ≡ realIf b f at) × AnswerAt f at (optional b f at)
+unfolding optionalValue realIf
+optional-read true f at = (real-value (take 8 (drop at f)) refl, refl)
+optional-read false f at = (refl, tt)
+
+optional-is : (b : Bool) (f : List ℕ) (at : ℕ) → cond b (wordAt f at) 0 ≡ optionalWord f at (optional b f at)
+unfolding optionalWord
+optional-is true f at = refl
+optional-is false f at = refl
+
+pub sref-filled : {fl : ℕ} {f : List ℕ} {at size : ℕ} {l : SrefLayout} (w₀ w₁ : List ℕ) → Room fl f at size l → (p : Point) (a m : ℕ) (d : Array) (t : TextSpan)
+    → (p .x ≡ longOf (take 4 (drop (at + 4) f))) × (p .y ≡ longOf (take 4 (drop (at + 4 + 4) f)))
+    → a ≡ cond (l .turned) (wordAt f (at + 12)) 0 → m ≡ cond (l .scaled) (wordAt f (at + l .magnif)) 0 → ArrayIs (l .repeated) f at (l .array) d
+    → (spanText f t ≡ value string (take (size - l .name) (drop (at + l .name) f))) × TextAt (at + l .name) (at + l .name + (size - l .name)) t
+    → w₁ ≡ put w₀ 6 (pointWord p ∷ a ∷ m ∷ arrayWords d ++ spanWords t)
+    → Filled kinds.Sref fl f at size w₀ w₁
+unfolding fieldWords
+sref-filled {fl} {f} {at} {size} {l} w₀ w₁ h p a m d t ep ea em ed et q =
+    let angle = optional (l .turned) f (at + 12) in
+    let magnif = optional (l .scaled) f (at + l .magnif) in
+    let ma = em ∙ optional-is (l .scaled) f (at + l .magnif) ∙ ap (λ (x : SrefLayout). optionalWord f (at + x .magnif) magnif) (h .is) in
+    filled refl (fields.Sref (record { at = p; angle = angle; magnif = magnif; array = d; name = t }))
+    (sref-by h p angle magnif d t ep (optional-read (l .turned) f (at + 12)) (optional-read (l .scaled) f (at + l .magnif)) ed et)
+    (q ∙ rw (ea ∙ optional-is (l .turned) f (at + 12), ma) refl)

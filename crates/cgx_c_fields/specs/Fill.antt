@@ -13,5 +13,9 @@ pub record Filled (k : Kind) (fl : ℕ) (f : List ℕ) (at size : ℕ) (w₀ w�
   -- There are fields that are the record's,
   pub fields : Fields
   pub read : ReadAt k fl f at size fields
-  -- and their words are stored after the nine that every kind has.
-  pub words : w₁ ≡ put w₀ 9 (fieldWords fields)
+  -- and their words are stored after the six that every kind has.
+  pub words : w₁ ≡ put w₀ 6 (fieldWords f fl at fields)
+
+-- Of a kind whose fields are the same under all flags.
+abbrev pub FilledAlike : Kind → List ℕ → ℕ → ℕ → List ℕ → List ℕ → Type 0
+FilledAlike k f at size w₀ w₁ = (fl : ℕ) → Filled k fl f at size w₀ w₁

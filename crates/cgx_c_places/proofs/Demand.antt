@@ -1,16 +1,18 @@
 -- What is proved of the words of a place, from the laws on them. Assumes nothing.
-use mathlib.Core.Path.{_≡_, sym, ap, _∙_}
+use mathlib.Core.Path.{_≡_, refl, sym, ap, _∙_}
 use lib.ListN.{length}
-use Rattle.cgx_spec.specs.declared.Place.{Place}
-use Rattle.cgx_c_places.specs.Words.{placeWords, placeOf}
+use Rattle.cgx_format_cursor.specs.declared.Cursor.{Cursor}
+use Rattle.cgx_format_cursor.specs.Cursors.{placeIn, cursorOf}
+use Rattle.cgx_c_places.specs.Words.{cursorWords, cursorIn}
 use Rattle.cgx_c_places.specs.Demand.{WordsDemand}
-use Rattle.cgx_c_places.proofs.Places.{place-words, place-back}
+use Rattle.cgx_c_places.proofs.Places.{cursor-read, cursor-back}
 
-nine : (p : Place) → length (placeWords p) ≡ 9
-nine p = ap length (place-words p)
+six : (c : Cursor) → length (cursorWords c) ≡ 6
+unfolding cursorWords
+six c = refl
 
-one : (p q : Place) → placeWords p ≡ placeWords q → p ≡ q
-one p q e = sym (place-back p) ∙ ap placeOf e ∙ place-back q
+one : (c d : Cursor) → c ≡ cursorOf (placeIn c) → d ≡ cursorOf (placeIn d) → cursorWords c ≡ cursorWords d → c ≡ d
+one c d p q e = sym (cursor-back c p) ∙ ap cursorIn e ∙ cursor-back d q
 
 pub words-demand : WordsDemand
-words-demand = record { back = place-back; nine = nine; one = one }
+words-demand = record { read = cursor-read; back = cursor-back; six = six; one = one }

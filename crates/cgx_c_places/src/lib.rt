@@ -1,95 +1,81 @@
-// Places in a C caller's memory. A caller lends a struct of include/cgx.h, which is taken as words of eight bytes, the low byte first.
+// Places in a C caller's memory. A caller lends a cgx_place of include/cgx.h, which is taken as six words of eight bytes, and a number for the offset that a refusal names.
 use cgx_format_cursor::Cursor;
 use cgx_format_cursor::State;
+use cgx_spec::Offset;
 ghost use mathlib.Core.Path.{_≡_};
-ghost use mathlib.Core.Bool.{cond};
 ghost use Prim.Native.Nat.{_≤_};
-ghost use Rattle.cgx_format_cursor.specs.Cursors.{placeIn, cursorOf, firstOf};
-ghost use Rattle.cgx_c_places.specs.Words.{bit as bitOf, stateWord, placeWords, isSet, placeOf};
+ghost use Rattle.cgx_format_cursor.specs.Cursors.{firstOf};
+ghost use Rattle.cgx_c_places.specs.Words.{bit as bitOf, seenWord, cursorWords, cursorIn, toldAt};
 
-pub type PlaceWords = [u64; 9];
+pub type PlaceWords = [u64; 6];
 
-// An offset that is absent, or present and 0, is 0.
 pub fn cursor_of(w: &PlaceWords) -> Cursor
-    ensures { λ r. ⌜ r ≡ cursorOf (placeOf (now (w .entry))) ⌝ }
+    ensures { λ r. ⌜ r ≡ cursorIn (now (w .entry)) ⌝ }
 {
     let at = w[0] as usize;
-    let cell = number_of(w[1], w[2]);
-    let layer = number_of(w[3], w[4]);
-    let first = number_of(w[5], w[6]);
-    let count = number_of(w[5], w[7]);
-    let state = w[8];
+    let cell = w[1] as usize;
+    let layer = w[2] as usize;
+    let first = w[3] as usize;
+    let count = w[4] as usize;
+    let seen = w[5];
     Cursor {
         at,
         state: State {
             cell,
             layer,
-            first,
+            first: first_of(first, count),
             count,
-            library: is_set(state),
-            fresh: is_set(state / 0x100),
-            ended: is_set(state / 0x1_0000),
+            library: seen % 2 == 1,
+            fresh: seen / 2 % 2 == 1,
+            ended: seen / 4 % 2 == 1,
         },
     }
 }
 
-// A C bool: the low byte of a word, whatever is in the bytes after it.
-fn is_set(w: u64) -> bool
-    ensures { λ r. ⌜ r ≡ isSet w ⌝ }
+// The first of a run of none is not looked at.
+fn first_of(first: usize, count: usize) -> usize
+    ensures { λ r. ⌜ r ≡ firstOf first count 0 ⌝ }
 {
-    w % 256 != 0
+    if count == 0 { 0 } else { first }
 }
 
-fn number_of(present: u64, n: u64) -> usize
-    ensures { λ r. ⌜ r ≡ cond (isSet present) n 0 ⌝ }
-{
-    if is_set(present) {
-        return n as usize;
-    }
-    0
-}
-
-// All words at once: a contract knows nothing of the length of a lent array, so that nine stores could not be said to be all of it.
+// All words at once: a contract knows nothing of the length of a lent array, so that six stores could not be said to be all of it.
 pub fn put_cursor(w: &mut PlaceWords, c: Cursor)
-    ensures { λ _. ⌜ now (w .exit) ≡ placeWords (placeIn c) ⌝ }
+    ensures { λ _. ⌜ now (w .exit) ≡ cursorWords c ⌝ }
 {
     let at = c.at;
     let s = c.state;
     *w = [
         at as u64,
-        bit(s.cell != 0),
         s.cell as u64,
-        bit(s.layer != 0),
         s.layer as u64,
-        bit(s.count != 0),
-        first_of(s.first, s.count),
+        s.first as u64,
         s.count as u64,
-        state_word(s.library, s.fresh, s.ended),
+        seen_word(s.library, s.fresh, s.ended),
     ];
 }
 
-// The three bools are in a row.
-fn state_word(library: bool, fresh: bool, ended: bool) -> u64
-    ensures { λ r. ⌜ r ≡ stateWord library fresh ended ⌝ }
+fn seen_word(library: bool, fresh: bool, ended: bool) -> u64
+    ensures { λ r. ⌜ r ≡ seenWord library fresh ended ⌝ }
 {
-    bit(library) + 0x100 * bit(fresh) + 0x1_0000 * bit(ended)
+    bit(library) + 2 * bit(fresh) + 4 * bit(ended)
 }
 
-// ---- the words that places and views share
-
-pub fn bit(b: bool) -> u64
+fn bit(b: bool) -> u64
     ensures { λ r. ⌜ r ≡ bitOf b ⌝ }
     ensures small { λ r. ⌜ r ≤ 1 ⌝ }
 {
     if b { 1 } else { 0 }
 }
 
-// The first of a run, which is 0 where there is none.
-pub fn first_of(first: usize, count: usize) -> u64
-    ensures { λ r. ⌜ r ≡ firstOf first count 0 ⌝ }
+// The offset that a refusal names: where it names none, the caller's number stays.
+pub fn put_offset(at: &mut u64, o: Offset)
+    ensures { λ _. ⌜ now (at .exit) ≡ toldAt o (now (at .entry)) ⌝ }
 {
-    if count == 0 {
-        return 0;
+    match o {
+        Offset::Nowhere => {}
+        Offset::At(n) => {
+            *at = n as u64;
+        }
     }
-    first as u64
 }

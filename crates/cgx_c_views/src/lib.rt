@@ -1,34 +1,26 @@
 // Views in a C caller's memory, as words of eight bytes: a store for each kind, of no more than the kind has.
-use cgx_c_places::bit;
-use cgx_c_places::first_of;
 use cgx_format_kinds::Array;
 use cgx_format_kinds::Date;
-use cgx_format_kinds::Fields;
 use cgx_format_kinds::ItemList;
 use cgx_format_kinds::Layer;
-use cgx_format_kinds::Library;
 use cgx_format_kinds::Name;
-use cgx_format_kinds::OptionalReal;
 use cgx_format_kinds::Point;
-use cgx_format_kinds::Sref;
 use cgx_format_kinds::Struct;
 use cgx_format_kinds::Text;
 use cgx_format_kinds::TextSpan;
 use cgx_format_kinds::Wire;
 use cgx_spec::Kind;
-use cgx_spec::Real;
 use numbers::long_bits;
 use numbers::short_bits;
 ghost use mathlib.Core.Path.{_≡_};
-ghost use mathlib.Core.List.{_∷_};
-ghost use Prim.Native.Nat.{_+_, _*_, _^_, _<_, _≤_};
+ghost use mathlib.Core.List.{_∷_, _++_};
+ghost use Prim.Native.Nat.{_+_, _^_, _<_, _≤_};
 ghost use Rattle.cgx_spec.specs.Kinds.{typeFor};
 ghost use Rattle.buffers.specs.Put.{put};
-ghost use Rattle.cgx_format_cursor.specs.Cursors.{offsetIn, runIn};
-ghost use Rattle.cgx_c_places.specs.Words.{bit as bitOf};
-ghost use Rattle.cgx_c_views.specs.ViewWords.{longBits, shortBits, pairWord, pointWord, dateWord, spanWords, listWords, doubleBits, realWords, optionalWords, arrayWords, layerWord, fieldWords, headWord, headWords};
+ghost use Rattle.cgx_format_cursor.specs.Cursors.{offsetIn, runIn, firstOf};
+ghost use Rattle.cgx_c_views.specs.ViewWords.{longBits, shortBits, pairWord, pointWord, dateWord, spanWords, listWords, arrayWords, layerWord, layerWords, headWord, headWords};
 
-pub type ViewWords = [u64; 22];
+pub type ViewWords = [u64; 14];
 
 // ---- what every kind has
 
@@ -47,19 +39,16 @@ pub fn put_head(
 {
     w[0] = head_word(k, flags);
     w[1] = at as u64;
-    w[2] = bit(cell != 0);
-    w[3] = cell as u64;
-    w[4] = bit(layer != 0);
-    w[5] = layer as u64;
-    w[6] = bit(count != 0);
-    w[7] = first_of(first, count);
-    w[8] = count as u64;
+    w[2] = cell as u64;
+    w[3] = layer as u64;
+    w[4] = first_of(first, count);
+    w[5] = count as u64;
 }
 
 fn head_word(k: Kind, flags: u8) -> u64
     ensures { λ r. ⌜ r ≡ headWord k flags ⌝ }
 {
-    kind_number(k) + 0x100 * (flags as u64)
+    kind_number(k) + 0x1_0000_0000 * (flags as u64)
 }
 
 fn kind_number(k: Kind) -> u64
@@ -81,43 +70,56 @@ fn kind_number(k: Kind) -> u64
     }
 }
 
+// The first of a run, which is 0 where there is none.
+fn first_of(first: usize, count: usize) -> u64
+    ensures { λ r. ⌜ r ≡ firstOf first count 0 ⌝ }
+{
+    if count == 0 {
+        return 0;
+    }
+    first as u64
+}
+
 // ---- a kind each: what the caller's view holds after its words stays
 
-pub fn put_library(w: &mut ViewWords, l: Library)
-    ensures { λ _. ⌜ now (w .exit) ≡ put (now (w .entry)) 9 (fieldWords (Fields.Library l)) ⌝ }
+// Reals are given as their words.
+pub fn put_library(
+    w: &mut ViewWords,
+    munit: u64,
+    uunit: u64,
+    created: Date,
+    modified: Date,
+    name: TextSpan,
+)
+    ensures { λ _. ⌜ now (w .exit) ≡ put (now (w .entry)) 6 (munit ∷ uunit ∷ dateWord created ∷ dateWord modified ∷ spanWords name) ⌝ }
 {
-    let munit = l.munit;
-    let uunit = l.uunit;
-    let created = l.created;
-    let modified = l.modified;
-    let name = l.name;
-    put_real(w, 9, munit);
-    put_real(w, 12, uunit);
-    w[15] = date_word(created);
-    w[16] = date_word(modified);
-    put_span(w, 17, name);
+    w[6] = munit;
+    w[7] = uunit;
+    w[8] = date_word(created);
+    w[9] = date_word(modified);
+    put_span(w, 10, name);
 }
 
 pub fn put_struct(w: &mut ViewWords, s: Struct)
-    ensures { λ _. ⌜ now (w .exit) ≡ put (now (w .entry)) 9 (fieldWords (Fields.Struct s)) ⌝ }
+    ensures { λ _. ⌜ now (w .exit) ≡ put (now (w .entry)) 6 (dateWord (s .created) ∷ dateWord (s .modified) ∷ spanWords (s .name)) ⌝ }
 {
     let created = s.created;
     let modified = s.modified;
     let name = s.name;
-    w[9] = date_word(created);
-    w[10] = date_word(modified);
-    put_span(w, 11, name);
+    w[6] = date_word(created);
+    w[7] = date_word(modified);
+    put_span(w, 8, name);
 }
 
 pub fn put_property(w: &mut ViewWords, number: i32, value: TextSpan)
-    ensures { λ _. ⌜ now (w .exit) ≡ put (now (w .entry)) 9 (longBits number ∷ spanWords value) ⌝ }
+    ensures { λ _. ⌜ now (w .exit) ≡ put (now (w .entry)) 6 (longBits number ∷ spanWords value) ⌝ }
 {
-    w[9] = long_word(number);
-    put_span(w, 10, value);
+    w[6] = long_word(number);
+    put_span(w, 7, value);
 }
 
 pub fn put_layer(w: &mut ViewWords, l: Layer)
-    ensures { λ _. ⌜ now (w .exit) ≡ put (now (w .entry)) 9 (fieldWords (Fields.Layer l)) ⌝ }
+    ensures { λ _. ⌜ now (w .exit) ≡ put (now (w .entry)) 6 (layerWords (l .number .0) (l .datatype .0) (l .name)) ⌝ }
 {
     let number = l.number;
     let datatype = l.datatype;
@@ -126,11 +128,13 @@ pub fn put_layer(w: &mut ViewWords, l: Layer)
     let d = datatype.0;
     match name {
         Name::Absent => {
-            w[9] = layer_word(n, d);
+            w[6] = layer_word(n, d);
+            w[7] = 0;
+            w[8] = 0;
         }
         Name::Present(s) => {
-            w[9] = layer_word(n, d) + 0x1_0000_0000;
-            put_span(w, 10, s);
+            w[6] = layer_word(n, d) + 0x1_0000_0000;
+            put_span(w, 7, s);
         }
     }
 }
@@ -143,44 +147,40 @@ fn layer_word(number: i16, datatype: i16) -> u64
 }
 
 pub fn put_wire(w: &mut ViewWords, x: Wire)
-    ensures { λ _. ⌜ now (w .exit) ≡ put (now (w .entry)) 9 (fieldWords (Fields.Wire x)) ⌝ }
+    ensures { λ _. ⌜ now (w .exit) ≡ put (now (w .entry)) 6 (longBits (x .width) ∷ listWords (x .points)) ⌝ }
 {
     let width = x.width;
     let points = x.points;
-    w[9] = long_word(width);
-    put_list(w, 10, points);
+    w[6] = long_word(width);
+    put_list(w, 7, points);
 }
 
 pub fn put_text(w: &mut ViewWords, t: Text)
-    ensures { λ _. ⌜ now (w .exit) ≡ put (now (w .entry)) 9 (fieldWords (Fields.Text t)) ⌝ }
+    ensures { λ _. ⌜ now (w .exit) ≡ put (now (w .entry)) 6 (pointWord (t .at) ∷ longBits (t .width) ∷ spanWords (t .label)) ⌝ }
 {
     let at = t.at;
     let width = t.width;
     let label = t.label;
-    w[9] = point_word(at);
-    w[10] = long_word(width);
-    put_span(w, 11, label);
+    w[6] = point_word(at);
+    w[7] = long_word(width);
+    put_span(w, 8, label);
 }
 
-pub fn put_sref(w: &mut ViewWords, s: Sref)
-    ensures { λ _. ⌜ now (w .exit) ≡ put (now (w .entry)) 9 (fieldWords (Fields.Sref s)) ⌝ }
+// Reals are given as their words.
+pub fn put_sref(w: &mut ViewWords, at: Point, angle: u64, magnif: u64, array: Array, name: TextSpan)
+    ensures { λ _. ⌜ now (w .exit) ≡ put (now (w .entry)) 6 (pointWord at ∷ angle ∷ magnif ∷ arrayWords array ++ spanWords name) ⌝ }
 {
-    let at = s.at;
-    let angle = s.angle;
-    let magnif = s.magnif;
-    let array = s.array;
-    let name = s.name;
-    w[9] = point_word(at);
-    put_optional(w, 10, angle);
-    put_optional(w, 13, magnif);
-    put_array(w, 16, array);
-    put_span(w, 20, name);
+    w[6] = point_word(at);
+    w[7] = angle;
+    w[8] = magnif;
+    put_array(w, array);
+    put_span(w, 12, name);
 }
 
 // ---- fields
 
 fn put_span(w: &mut ViewWords, i: usize, s: TextSpan)
-    requires { ⌜ i + 2 ≤ 22 ⌝ }
+    requires { ⌜ i + 2 ≤ 14 ⌝ }
     ensures { λ _. ⌜ now (w .exit) ≡ put (now (w .entry)) i (spanWords s) ⌝ }
 {
     w[i] = s.at as u64;
@@ -188,71 +188,21 @@ fn put_span(w: &mut ViewWords, i: usize, s: TextSpan)
 }
 
 pub fn put_list(w: &mut ViewWords, i: usize, r: ItemList)
-    requires { ⌜ i + 2 ≤ 22 ⌝ }
+    requires { ⌜ i + 2 ≤ 14 ⌝ }
     ensures { λ _. ⌜ now (w .exit) ≡ put (now (w .entry)) i (listWords r) ⌝ }
 {
     w[i] = r.first as u64;
     w[i + 1] = r.count as u64;
 }
 
-fn put_real(w: &mut ViewWords, i: usize, r: Real)
-    requires { ⌜ i + 3 ≤ 22 ⌝ }
-    ensures { λ _. ⌜ now (w .exit) ≡ put (now (w .entry)) i (realWords r) ⌝ }
-{
-    match r {
-        Real::Exact(x) => {
-            w[i] = 0x101;
-            w[i + 1] = double_word(x);
-            w[i + 2] = 0;
-        }
-        Real::Inexact { negative, e, m } => {
-            w[i] = inexact_word(negative, e);
-            w[i + 1] = 0;
-            w[i + 2] = m;
-        }
-    }
-}
-
-fn inexact_word(negative: bool, e: u8) -> u64
-    ensures { λ r. ⌜ r ≡ 1 + 2 ^ 16 * bitOf negative + 2 ^ 24 * e ⌝ }
-{
-    1 + 0x1_0000 * bit(negative) + 0x100_0000 * (e as u64)
-}
-
-// The bits of a NaN are not defined: there is none in a file.
-fn double_word(x: f64) -> u64
-    ensures { λ r. ⌜ r ≡ doubleBits x ⌝ }
-{
-    if x == x {
-        return f64::to_bits(x);
-    }
-    0
-}
-
-fn put_optional(w: &mut ViewWords, i: usize, o: OptionalReal)
-    requires { ⌜ i + 3 ≤ 22 ⌝ }
-    ensures { λ _. ⌜ now (w .exit) ≡ put (now (w .entry)) i (optionalWords o) ⌝ }
-{
-    match o {
-        OptionalReal::Missing => {
-            w[i] = 0;
-            w[i + 1] = 0;
-            w[i + 2] = 0;
-        }
-        OptionalReal::Given(x) => put_real(w, i, x),
-    }
-}
-
-fn put_array(w: &mut ViewWords, i: usize, a: Array)
-    requires { ⌜ i + 4 ≤ 22 ⌝ }
-    ensures { λ _. ⌜ now (w .exit) ≡ put (now (w .entry)) i (arrayWords a) ⌝ }
+fn put_array(w: &mut ViewWords, a: Array)
+    ensures { λ _. ⌜ now (w .exit) ≡ put (now (w .entry)) 9 (arrayWords a) ⌝ }
 {
     match a {
         Array::Single => {
-            w[i] = 0;
-            w[i + 1] = 0;
-            w[i + 2] = 0;
-            w[i + 3] = 0;
+            w[9] = 0;
+            w[10] = 0;
+            w[11] = 0;
         }
         Array::Of {
             cols,
@@ -260,10 +210,9 @@ fn put_array(w: &mut ViewWords, i: usize, a: Array)
             across,
             up,
         } => {
-            w[i] = pair_word(cols, rows);
-            w[i + 1] = point_word(across);
-            w[i + 2] = point_word(up);
-            w[i + 3] = 1;
+            w[9] = pair_word(cols, rows);
+            w[10] = point_word(across);
+            w[11] = point_word(up);
         }
     }
 }

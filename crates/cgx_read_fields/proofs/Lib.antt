@@ -4,4 +4,5 @@ pub mod Texts
 pub mod Parts
 pub mod Cuts
 pub mod Ready
+pub mod Libraries
 pub mod Srefs

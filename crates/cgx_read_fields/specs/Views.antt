@@ -55,8 +55,12 @@ NameAt b e (Present s) = TextAt b e s
 abbrev pub ListAt : ℕ → ℕ → ℕ → ItemList → Type 0
 ListAt u b e r = (r .first ≡ b) × (r .first + u * r .count ≤ e)
 
+-- Eight bytes as one number, the first byte highest: the word of a real.
+abbrev pub wordAt : List ℕ → ℕ → ℕ
+wordAt f b = number (take 8 (drop b f))
+
 abbrev pub realAt : List ℕ → ℕ → Real
-realAt f b = answer (number (take 8 (drop b f)))
+realAt f b = answer (wordAt f b)
 
 abbrev pub AnswerAt : List ℕ → ℕ → OptionalReal → Type 0
 AnswerAt f b Missing = Unit {0}

@@ -25,9 +25,10 @@ use cgx_spec::Kind;
 use cgx_spec::Real;
 use numbers::long_at;
 use numbers::short_at;
-use reals::read_real;
+use numbers::word_of;
+use reals::real_of;
 ghost use mathlib.Core.Path.{_≡_};
-ghost use mathlib.Core.Bool.{true};
+ghost use mathlib.Core.Bool.{true, cond};
 ghost use Prim.Native.Nat.{_+_, _-_, _*_, _%_, _≤_, _<_};
 ghost use lib.ListN.{length, take, drop};
 ghost use Rattle.cgx_spec.specs.Numbers.{longOf};
@@ -36,7 +37,7 @@ ghost use Rattle.cgx_spec.specs.Kinds.{layout};
 ghost use Rattle.cgx_spec.specs.Walking.{recAt};
 ghost use Rattle.cgx_format_kinds.specs.Meant.{spanText, nameText, dateNumbers, optionalValue, fieldValues, fieldsKind};
 ghost use Rattle.cgx_format_sref.specs.Layouts.{srefLayout};
-ghost use Rattle.cgx_read_fields.specs.Views.{Readable, FieldsAt, ReadAt, ReadAlike, TextAt, NameAt, realAt, AnswerAt, StringAt, OptionalAt, realIf, ArrayIs};
+ghost use Rattle.cgx_read_fields.specs.Views.{Readable, FieldsAt, ReadAt, ReadAlike, TextAt, NameAt, wordAt, realAt, AnswerAt, StringAt, OptionalAt, realIf, ArrayIs};
 
 // The fields of the record of `size` bytes at `at`, of this kind and with these flags.
 pub fn fields_of(f: &[u8], k: Kind, fl: u8, at: usize, size: usize) -> Fields
@@ -191,11 +192,19 @@ fn real_at(f: &[u8], at: usize) -> Real
     requires { ⌜ at + 8 ≤ length (now f) ⌝ }
     ensures { λ r. ⌜ r ≡ realAt (now (f .entry)) at ⌝ }
 {
-    let end = at + 8;
-    read_real(&f[at..end])
+    real_of(word_at(f, at))
 }
 
-fn date_at(f: &[u8], at: usize) -> Date
+// A real as the file has it.
+pub fn word_at(f: &[u8], at: usize) -> u64
+    requires { ⌜ at + 8 ≤ length (now f) ⌝ }
+    ensures { λ r. ⌜ r ≡ wordAt (now (f .entry)) at ⌝ }
+{
+    let end = at + 8;
+    word_of(&f[at..end])
+}
+
+pub fn date_at(f: &[u8], at: usize) -> Date
     requires { ⌜ at + 8 ≤ length (now f) ⌝ }
     ensures { λ r. ⌜ dateNumbers r ≡ value date (take 8 (drop at (now (f .entry)))) ⌝ }
 {
@@ -209,7 +218,7 @@ fn date_at(f: &[u8], at: usize) -> Date
     }
 }
 
-fn point_at(f: &[u8], at: usize) -> Point
+pub fn point_at(f: &[u8], at: usize) -> Point
     requires { ⌜ at + 8 ≤ length (now f) ⌝ }
     ensures { λ r. ⌜ (r .x ≡ longOf (take 4 (drop at (now (f .entry))))) × (r .y ≡ longOf (take 4 (drop (at + 4) (now (f .entry))))) ⌝ }
 {
@@ -219,7 +228,7 @@ fn point_at(f: &[u8], at: usize) -> Point
 }
 
 // A good string ends in one zero byte or in two, so that its last two bytes tell where its text ends.
-fn text_at(f: &[u8], at: usize, len: usize) -> TextSpan
+pub fn text_at(f: &[u8], at: usize, len: usize) -> TextSpan
     requires { ⌜ StringAt (now f) at len ⌝ }
     ensures { λ r. ⌜ (spanText (now (f .entry)) r ≡ value string (take len (drop at (now (f .entry))))) × TextAt at (at + len) r ⌝ }
 {
@@ -263,8 +272,19 @@ fn real_if(f: &[u8], at: usize, there: bool) -> OptionalReal
     OptionalReal::Missing
 }
 
+// Its word, or 0 for none.
+pub fn word_if(f: &[u8], at: usize, there: bool) -> u64
+    requires { ⌜ (there ≡ true → at + 8 ≤ length (now f)) ⌝ }
+    ensures { λ r. ⌜ r ≡ cond there (wordAt (now (f .entry)) at) 0 ⌝ }
+{
+    if there {
+        return word_at(f, at);
+    }
+    0
+}
+
 // From byte o of the record at `at` on.
-fn array_if(f: &[u8], at: usize, o: usize, there: bool) -> Array
+pub fn array_if(f: &[u8], at: usize, o: usize, there: bool) -> Array
     requires { ⌜ (o ≤ 100) × (there ≡ true → at + (o + 24) ≤ length (now f)) ⌝ }
     ensures { λ r. ⌜ ArrayIs there (now (f .entry)) at o r ⌝ }
 {

@@ -1,5 +1,4 @@
 -- By the size of the LAYER, 0 where there is none, and by its name as it is read.
-use lib.ListN.{length}
 use Rattle.cgx_ask_layer_name.proofs.Layers.{one-there, none-shown, layer-room, layer-named, absent-shown, empty-name-shown, present-shown}
 use borrow.Author.Needs.{needs}
 use Rattle.cgx_ask_layer_name.proofs.layer_name_at.Statement.{statement}
@@ -10,12 +9,12 @@ layer-size-requires c κs = search needs
 
 returns : tie.Need-returns
 returns c =
-    let s = c .before .before .before .before .args in
-    none-shown (s .file .now) (s .at) (c .before .layer-size .ensures) (c .if1 .taken) (length (s .substitute .now))
+    let s = c .before .before .before .args in
+    none-shown (s .file .now) (s .at) (c .before .layer-size .ensures) (c .if1 .taken)
 
 layer-of-requires : tie.Need-layer-of-requires
 layer-of-requires c κs =
-    let s = c .before .before .before .before .args in
+    let s = c .before .before .before .args in
     let a = one-there (s .file .now) (s .at) (c .before .layer-size .ensures) (c .if1 .left) in
     (layer-room (s .file .now) (s .at) _ a .0, layer-named (s .file .now) (s .at) _ a)
 
@@ -29,25 +28,25 @@ returns-2 : tie.Need-returns-2
 returns-2 c =
     let r = c .before .before .before .before .before in
     let i = r .before in
-    let s = i .before .before .before .before .args in
+    let s = i .before .before .before .args in
     let a = one-there (s .file .now) (s .at) (i .before .layer-size .ensures) (i .if1 .left) in
-    empty-name-shown (s .file .now) (s .at) _ a (r .layer-of .ensures) (length (s .substitute .now)) (c .before .before .before .name .given .1) (c .if2 .taken)
+    empty-name-shown (s .file .now) (s .at) _ a (r .layer-of .ensures) (c .before .before .before .name .given .1) (c .if2 .taken)
 
 returns-3 : tie.Need-returns-3
 returns-3 c =
     let r = c .before .before in
     let i = r .before in
-    let s = i .before .before .before .before .args in
+    let s = i .before .before .before .args in
     let a = one-there (s .file .now) (s .at) (i .before .layer-size .ensures) (i .if1 .left) in
-    absent-shown (s .file .now) (s .at) _ a (r .layer-of .ensures) (length (s .substitute .now)) (c .enum-told .given .1)
+    absent-shown (s .file .now) (s .at) _ a (r .layer-of .ensures) (c .enum-told .given .1)
 
 returns-4 : tie.Need-returns-4
 returns-4 c =
     let r = c .before .before .before .before .before in
     let i = r .before in
-    let s = i .before .before .before .before .args in
+    let s = i .before .before .before .args in
     let a = one-there (s .file .now) (s .at) (i .before .layer-size .ensures) (i .if1 .left) in
-    present-shown (s .file .now) (s .at) _ a (r .layer-of .ensures) (length (s .substitute .now)) (c .before .before .before .name .given .1) (c .if2 .left)
+    present-shown (s .file .now) (s .at) _ a (r .layer-of .ensures) (c .before .before .before .name .given .1) (c .if2 .left)
 
 pub layer-name-at-spec : {M : Type 1} → statement M
 layer-name-at-spec =

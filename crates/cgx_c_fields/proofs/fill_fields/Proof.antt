@@ -5,7 +5,7 @@ use Rattle.cgx_format_kinds.specs.declared.Fields.the-variants as fields
 use Rattle.cgx_read_fields.proofs.Ready.{told, library-ready, struct-ready, cprpty-ready, property-ready, layer-ready, box-ready, poly-ready, wire-ready, text-ready}
 use Rattle.cgx_read_fields.proofs.Srefs.{sref-ready}
 use Rattle.cgx_c_views.specs.ViewWords.{fieldWords}
-use Rattle.cgx_c_fields.proofs.Fills.{filled, numbered, none-filled}
+use Rattle.cgx_c_fields.proofs.Fills.{filled, filled-as, numbered, none-filled}
 use borrow.Author.Needs.{needs}
 use Rattle.cgx_c_fields.proofs.fill_fields.Statement.{statement}
 use Rattle.cgx_c_fields.proofs.fill_fields.Tie as tie
@@ -13,11 +13,8 @@ use Rattle.cgx_c_fields.proofs.fill_fields.Tie as tie
 enum-told : tie.Need-enum-told
 enum-told c = search needs
 
-library-of-requires : tie.Need-library-of-requires
-library-of-requires c κs = library-ready (told (c .before .enum-told .given .1) (c .before .before .before .before .pre))
-
-put-library-requires : tie.Need-put-library-requires
-put-library-requires c κs = search needs
+fill-library-requires : tie.Need-fill-library-requires
+fill-library-requires c κs = library-ready (told (c .before .enum-told .given .1) (c .before .before .before .before .pre))
 
 enum-told-2 : tie.Need-enum-told-2
 enum-told-2 c = search needs
@@ -94,19 +91,17 @@ put-text-requires c κs = search needs
 enum-told-10 : tie.Need-enum-told-10
 enum-told-10 c = search needs
 
-sref-of-requires : tie.Need-sref-of-requires
-sref-of-requires c κs = sref-ready (told (c .before .enum-told10 .given .1) (c .before .before .before .before .pre))
-
-put-sref-requires : tie.Need-put-sref-requires
-put-sref-requires c κs = search needs
+fill-sref-requires : tie.Need-fill-sref-requires
+fill-sref-requires c κs = sref-ready (told (c .before .enum-told10 .given .1) (c .before .before .before .before .pre))
 
 enum-told-11 : tie.Need-enum-told-11
 enum-told-11 c = search needs
 
 returns : tie.Need-returns
-returns c = filled (c .before .before .before .enum-told .given .1) (fields.Library (c .before .library-of .result)) (c .before .library-of .ensures (c .before .before .before .before .before .before .args .fl)) (c .put-library .ensures)
+returns c = filled-as (c .before .before .enum-told .given .1) (c .fill-library .ensures (c .before .before .before .before .before .args .fl))
 
 returns-2 : tie.Need-returns-2
+unfolding fieldWords
 returns-2 c = filled (c .before .before .before .enum-told2 .given .1) (fields.Struct (c .before .struct-of .result)) (c .before .struct-of .ensures (c .before .before .before .before .before .before .args .fl)) (c .put-struct .ensures)
 
 returns-3 : tie.Need-returns-3
@@ -118,6 +113,7 @@ unfolding fieldWords
 returns-4 c = filled (c .before .before .before .before .before .enum-told4 .given .1) (fields.Property (c .before .before .before .before .property-of .result)) (c .before .before .before .before .property-of .ensures (c .before .before .before .before .before .before .before .before .args .fl)) (numbered (c .before .before .before .before .before .before .before .before .args .w .now) (c .before .before .before .before .property-of .result .value) (back w32 (c .before .before .before .struct-told2 .given .0 .1)) (c .put-property2 .ensures))
 
 returns-5 : tie.Need-returns-5
+unfolding fieldWords
 returns-5 c = filled (c .before .before .before .enum-told5 .given .1) (fields.Layer (c .before .layer-of .result)) (c .before .layer-of .ensures (c .before .before .before .before .before .before .args .fl)) (c .put-layer .ensures)
 
 returns-6 : tie.Need-returns-6
@@ -129,13 +125,15 @@ unfolding fieldWords
 returns-7 c = filled (c .before .before .before .before .enum-told7 .given .1) (fields.Poly (c .before .before .before .poly-of .result)) (c .before .before .before .poly-of .ensures (c .before .before .before .before .before .before .before .args .fl)) (c .put-list2 .ensures)
 
 returns-8 : tie.Need-returns-8
+unfolding fieldWords
 returns-8 c = filled (c .before .before .before .enum-told8 .given .1) (fields.Wire (c .before .wire-of .result)) (c .before .wire-of .ensures (c .before .before .before .before .before .before .args .fl)) (c .put-wire .ensures)
 
 returns-9 : tie.Need-returns-9
+unfolding fieldWords
 returns-9 c = filled (c .before .before .before .enum-told9 .given .1) (fields.Text (c .before .text-of .result)) (c .before .text-of .ensures (c .before .before .before .before .before .before .args .fl)) (c .put-text .ensures)
 
 returns-10 : tie.Need-returns-10
-returns-10 c = filled (c .before .before .before .enum-told10 .given .1) (fields.Sref (c .before .sref-of .result)) (c .before .sref-of .ensures) (c .put-sref .ensures)
+returns-10 c = filled-as (c .before .before .enum-told10 .given .1) (c .fill-sref .ensures)
 
 returns-11 : tie.Need-returns-11
 returns-11 c = let a = c .before .before .before .args in none-filled (a .fl) (a .f .now) (a .at) (a .size) (a .w .now) (c .enum-told11 .given .1)
@@ -145,8 +143,7 @@ fill-fields-spec =
     tie.close
     (tie.spec
     enum-told
-    library-of-requires
-    put-library-requires
+    fill-library-requires
     enum-told-2
     struct-of-requires
     put-struct-requires
@@ -172,8 +169,7 @@ fill-fields-spec =
     text-of-requires
     put-text-requires
     enum-told-10
-    sref-of-requires
-    put-sref-requires
+    fill-sref-requires
     enum-told-11
     returns
     returns-2

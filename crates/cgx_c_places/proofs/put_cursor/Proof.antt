@@ -1,34 +1,16 @@
--- Nine words are stored at once.
-use Rattle.cgx_c_places.proofs.Places.{place-stored}
+-- Six words are stored at once.
+use Rattle.cgx_c_places.specs.Words.{cursorWords}
 use borrow.Author.Needs.{needs}
 use Rattle.cgx_c_places.proofs.put_cursor.Statement.{statement}
 use Rattle.cgx_c_places.proofs.put_cursor.Tie as tie
+use Rattle.cgx_c_places.proofs.seen_word.Reads as seen-word-reads
 
-bit-requires : tie.Need-bit-requires
-bit-requires c κs = search needs
-
-bit-requires-2 : tie.Need-bit-requires-2
-bit-requires-2 c κs = search needs
-
-bit-requires-3 : tie.Need-bit-requires-3
-bit-requires-3 c κs = search needs
-
-first-of-requires : tie.Need-first-of-requires
-first-of-requires c κs = search needs
-
-state-word-requires : tie.Need-state-word-requires
-state-word-requires c κs = search needs
+seen-word-requires : tie.Need-seen-word-requires
+seen-word-requires c κs = search needs
 
 returns : tie.Need-returns
-returns c = place-stored (c .before .before .before .before .before .before .before .before .before .before .args .c) _ _ _ _ _ (c .before .before .before .before .before .before .before .bit .ensures .0) (c .before .before .before .before .before .bit2 .ensures .0) (c .before .before .before .bit3 .ensures .0) (c .before .before .first-of .ensures) (c .before .state-word .ensures)
+unfolding cursorWords
+returns c = cc (c .before .seen-word .ensures)
 
 pub put-cursor-spec : {M : Type 1} → statement M
-put-cursor-spec =
-    tie.close
-    (tie.spec
-    bit-requires
-    bit-requires-2
-    bit-requires-3
-    first-of-requires
-    state-word-requires
-    returns)
+put-cursor-spec = tie.close (tie.spec seen-word-requires returns)

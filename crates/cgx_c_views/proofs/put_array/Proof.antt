@@ -2,8 +2,8 @@
 use mathlib.Core.Path.{refl, ap₂, _∙_}
 use mir.Syntax.{w32}
 use Rattle.numbers.proofs.Signed.{back}
+use Rattle.buffers.specs.Put.{put}
 use Rattle.cgx_c_views.specs.ViewWords.{pairWord, arrayWords}
-use Rattle.cgx_c_views.proofs.Stored.{four}
 use borrow.Author.Needs.{needs}
 use Rattle.cgx_c_views.proofs.put_array.Statement.{statement}
 use Rattle.cgx_c_views.proofs.put_array.Tie as tie
@@ -11,38 +11,14 @@ use Rattle.cgx_c_views.proofs.put_array.Tie as tie
 enum-told : tie.Need-enum-told
 enum-told c = search needs
 
-mul-w : tie.Need-mul-w
-mul-w c = search needs
-
 element-write-w : tie.Need-element-write-w
 element-write-w c = search needs
-
-add-w : tie.Need-add-w
-add-w c = search needs
-
-mul-w-2 : tie.Need-mul-w-2
-mul-w-2 c = search needs
 
 element-write-w-2 : tie.Need-element-write-w-2
 element-write-w-2 c = search needs
 
-add-w-2 : tie.Need-add-w-2
-add-w-2 c = search needs
-
-mul-w-3 : tie.Need-mul-w-3
-mul-w-3 c = search needs
-
 element-write-w-3 : tie.Need-element-write-w-3
 element-write-w-3 c = search needs
-
-add-w-3 : tie.Need-add-w-3
-add-w-3 c = search needs
-
-mul-w-4 : tie.Need-mul-w-4
-mul-w-4 c = search needs
-
-element-write-w-4 : tie.Need-element-write-w-4
-element-write-w-4 c = search needs
 
 enum-known-a : tie.Need-enum-known-a
 enum-known-a c = search needs
@@ -50,88 +26,47 @@ enum-known-a c = search needs
 pair-word-requires : tie.Need-pair-word-requires
 pair-word-requires c κs = search needs
 
-mul-w-5 : tie.Need-mul-w-5
-mul-w-5 c = search needs
-
-element-write-w-5 : tie.Need-element-write-w-5
-element-write-w-5 c = search needs
+element-write-w-4 : tie.Need-element-write-w-4
+element-write-w-4 c = search needs
 
 point-word-requires : tie.Need-point-word-requires
 point-word-requires c κs = search needs
 
-add-w-4 : tie.Need-add-w-4
-add-w-4 c = search needs
-
-mul-w-6 : tie.Need-mul-w-6
-mul-w-6 c = search needs
-
-element-write-w-6 : tie.Need-element-write-w-6
-element-write-w-6 c = search needs
+element-write-w-5 : tie.Need-element-write-w-5
+element-write-w-5 c = search needs
 
 point-word-requires-2 : tie.Need-point-word-requires-2
 point-word-requires-2 c κs = search needs
 
-add-w-5 : tie.Need-add-w-5
-add-w-5 c = search needs
-
-mul-w-7 : tie.Need-mul-w-7
-mul-w-7 c = search needs
-
-element-write-w-7 : tie.Need-element-write-w-7
-element-write-w-7 c = search needs
-
-add-w-6 : tie.Need-add-w-6
-add-w-6 c = search needs
-
-mul-w-8 : tie.Need-mul-w-8
-mul-w-8 c = search needs
-
-element-write-w-8 : tie.Need-element-write-w-8
-element-write-w-8 c = search needs
+element-write-w-6 : tie.Need-element-write-w-6
+element-write-w-6 c = search needs
 
 returns : tie.Need-returns
-unfolding arrayWords
-returns c = let a = c .before .before .args in
-    rw (c .enum-told .given .1) (four (a .w .now) (a .i) 0 0 0 0)
+unfolding put arrayWords
+returns c = rw (c .enum-told .given .1) refl
 
 returns-2 : tie.Need-returns-2
-unfolding arrayWords
-returns-2 c = let a = c .before .before .before .before .before .before .args in
+unfolding put arrayWords
+returns-2 c =
     let k = c .before .before .before .known-told .given in
     let v = c .before .before .before .before .a .given .0 in
     let p = c .before .before .pair-word .ensures ∙ ap₂ pairWord (back w32 {z = v .0} (k .0 .1)) (back w32 {z = v .1 .0} (k .1 .0 .1)) in
-    rw (c .before .before .before .before .a .given .1) (four (a .w .now) (a .i) _ _ _ 1 ∙ rw (p, c .before .point-word .ensures, c .point-word2 .ensures) refl)
+    rw (c .before .before .before .before .a .given .1) (rw (p, c .before .point-word .ensures, c .point-word2 .ensures) refl)
 
 pub put-array-spec : {M : Type 1} → statement M
 put-array-spec =
     tie.close
     (tie.spec
     enum-told
-    mul-w
     element-write-w
-    add-w
-    mul-w-2
     element-write-w-2
-    add-w-2
-    mul-w-3
     element-write-w-3
-    add-w-3
-    mul-w-4
-    element-write-w-4
     enum-known-a
     pair-word-requires
-    mul-w-5
-    element-write-w-5
+    element-write-w-4
     point-word-requires
-    add-w-4
-    mul-w-6
-    element-write-w-6
+    element-write-w-5
     point-word-requires-2
-    add-w-5
-    mul-w-7
-    element-write-w-7
-    add-w-6
-    mul-w-8
-    element-write-w-8
+    element-write-w-6
     returns
     returns-2)

@@ -1,4 +1,5 @@
 -- Its fields in turn.
+use Rattle.cgx_c_views.specs.ViewWords.{pointWord, spanWords}
 use Rattle.cgx_c_views.proofs.Stored.{sref-stored}
 use borrow.Author.Needs.{needs}
 use Rattle.cgx_c_views.proofs.put_sref.Statement.{statement}
@@ -10,11 +11,11 @@ point-word-requires c κs = search needs
 element-write-w : tie.Need-element-write-w
 element-write-w c = search needs
 
-put-optional-requires : tie.Need-put-optional-requires
-put-optional-requires c κs = search needs
+element-write-w-2 : tie.Need-element-write-w-2
+element-write-w-2 c = search needs
 
-put-optional-requires-2 : tie.Need-put-optional-requires-2
-put-optional-requires-2 c κs = search needs
+element-write-w-3 : tie.Need-element-write-w-3
+element-write-w-3 c = search needs
 
 put-array-requires : tie.Need-put-array-requires
 put-array-requires c κs = search needs
@@ -23,8 +24,7 @@ put-span-requires : tie.Need-put-span-requires
 put-span-requires c κs = search needs
 
 returns : tie.Need-returns
-returns c = let a = c .before .before .before .before .before .before .before .before .before .before .before .args in
-    sref-stored (a .w .now) (a .s) _ _ _ _ _ (c .before .before .before .before .before .before .before .before .point-word .ensures) (c .before .before .before .before .before .before .put-optional .ensures) (c .before .before .before .before .put-optional2 .ensures) (c .before .before .put-array .ensures) (c .put-span .ensures)
+returns c = let a = c .before .before .before .before .before .args in sref-stored (a .w .now) (pointWord (a .at)) (a .angle) (a .magnif) (a .array) (spanWords (a .name)) _ _ _ (c .before .before .before .before .point-word .ensures) (c .before .before .put-array .ensures) (c .put-span .ensures)
 
 pub put-sref-spec : {M : Type 1} → statement M
 put-sref-spec =
@@ -32,8 +32,8 @@ put-sref-spec =
     (tie.spec
     point-word-requires
     element-write-w
-    put-optional-requires
-    put-optional-requires-2
+    element-write-w-2
+    element-write-w-3
     put-array-requires
     put-span-requires
     returns)

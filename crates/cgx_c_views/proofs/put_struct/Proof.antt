@@ -1,5 +1,6 @@
 -- Its fields in turn.
-use Rattle.cgx_c_views.proofs.Stored.{struct-stored}
+use Rattle.cgx_c_views.specs.ViewWords.{dateWord, spanWords}
+use Rattle.cgx_c_views.proofs.Stored.{two-more}
 use borrow.Author.Needs.{needs}
 use Rattle.cgx_c_views.proofs.put_struct.Statement.{statement}
 use Rattle.cgx_c_views.proofs.put_struct.Tie as tie
@@ -20,8 +21,7 @@ put-span-requires : tie.Need-put-span-requires
 put-span-requires c κs = search needs
 
 returns : tie.Need-returns
-returns c = let a = c .before .before .before .before .before .before .before .args in
-    struct-stored (a .w .now) (a .s) _ _ _ (c .before .before .before .date-word .ensures) (c .before .before .date-word2 .ensures) (c .put-span .ensures)
+returns c = let a = c .before .before .before .before .before .before .before .args in two-more (a .w .now) (dateWord (a .s .created)) (dateWord (a .s .modified)) (spanWords (a .s .name)) _ _ _ (c .before .before .before .date-word .ensures) (c .before .before .date-word2 .ensures) (c .put-span .ensures)
 
 pub put-struct-spec : {M : Type 1} → statement M
 put-struct-spec =

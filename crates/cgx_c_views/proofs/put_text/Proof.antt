@@ -2,8 +2,8 @@
 use mathlib.Core.Path.{ap, _∙_}
 use mir.Syntax.{w32}
 use Rattle.numbers.proofs.Signed.{back}
-use Rattle.cgx_c_views.specs.ViewWords.{longBits}
-use Rattle.cgx_c_views.proofs.Stored.{text-stored}
+use Rattle.cgx_c_views.specs.ViewWords.{longBits, pointWord, spanWords}
+use Rattle.cgx_c_views.proofs.Stored.{two-more}
 use borrow.Author.Needs.{needs}
 use Rattle.cgx_c_views.proofs.put_text.Statement.{statement}
 use Rattle.cgx_c_views.proofs.put_text.Tie as tie
@@ -24,8 +24,7 @@ put-span-requires : tie.Need-put-span-requires
 put-span-requires c κs = search needs
 
 returns : tie.Need-returns
-returns c = let a = c .before .before .before .before .before .before .before .args in
-    text-stored (a .w .now) (a .t) _ _ _ (c .before .before .before .point-word .ensures) (c .before .before .long-word .ensures .0 ∙ ap longBits (back w32 (c .before .before .before .before .before .struct-told .given .1 .0 .1))) (c .put-span .ensures)
+returns c = let a = c .before .before .before .before .before .before .before .args in two-more (a .w .now) (pointWord (a .t .at)) (longBits (a .t .width)) (spanWords (a .t .label)) _ _ _ (c .before .before .before .point-word .ensures) (c .before .before .long-word .ensures .0 ∙ ap longBits (back w32 (c .before .before .before .before .before .struct-told .given .1 .0 .1))) (c .put-span .ensures)
 
 pub put-text-spec : {M : Type 1} → statement M
 put-text-spec =

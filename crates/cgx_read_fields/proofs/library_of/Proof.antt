@@ -1,13 +1,6 @@
 -- `cgx_read_fields::library_of` is right: each field is read where the layout has it. Assumes nothing.
-use mathlib.Core.Path.{refl}
-use Prim.Native.Nat.{_+_}
 use native.Mathlib.Omega.{arith}
-use lib.ListN.{take, drop}
-use Rattle.cgx_spec.specs.Fields.{width, value, values}
-use Rattle.cgx_spec.specs.Kinds.{layout}
-use Rattle.cgx_format_kinds.specs.Meant.{fieldValues, fieldsKind}
-use Rattle.cgx_read_fields.specs.Views.{FieldsAt, piecesAt, valuesAt}
-use Rattle.cgx_read_fields.proofs.Parts.{_then_, real-value}
+use Rattle.cgx_read_fields.proofs.Libraries.{library-by}
 use Rattle.cgx_read_fields.proofs.library_of.Statement.{statement}
 use Rattle.cgx_read_fields.proofs.library_of.Tie as tie
 
@@ -45,20 +38,9 @@ text-at-requires : tie.Need-text-at-requires
 text-at-requires c κs = c .before .before .before .before .before .pre
 
 returns : tie.Need-returns
-unfolding FieldsAt fieldValues fieldsKind valuesAt layout piecesAt width values value
-returns c fl =
-    let s = c .before .before .before .before .before .before .args in
-    record {
-      meant =
-          real-value (take 8 (drop (s .at + 4) (s .f .now))) (c .before .before .before .before .real-at .ensures)
-          then real-value (take 8 (drop (s .at + 12) (s .f .now))) (c .before .before .before .real-at2 .ensures)
-          then c .before .before .date-at .ensures
-          then c .before .date-at2 .ensures
-          then c .text-at .ensures .0
-          then refl;
-      kind-is = refl;
-      located = (c .before .before .before .before .real-at .ensures, c .before .before .before .real-at2 .ensures, (c .text-at .ensures .1 .0, omega arith));
-    }
+returns c =
+    let s = c .before .before .before .before .before .before in
+    library-by (s .args .f .now) (s .args .at) (s .args .size) (s .pre) _ _ _ _ _ (c .before .before .before .before .real-at .ensures) (c .before .before .before .real-at2 .ensures) (c .before .before .date-at .ensures) (c .before .date-at2 .ensures) (c .text-at .ensures)
 
 pub library-of-spec : {M : Type 1} → statement M
 library-of-spec =

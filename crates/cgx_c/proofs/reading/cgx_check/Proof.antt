@@ -1,5 +1,7 @@
--- The struct means the answer of the call.
-use mathlib.Core.Path.{_∙_}
+-- What the call answers, as C is told it.
+use mathlib.Core.Path.{ap, _∙_}
+use Rattle.cgx_spec.specs.declared.Verdict.{Verdict}
+use Rattle.cgx_c_answers.specs.Told.{verdictTold}
 use borrow.Author.Needs.{needs}
 use Rattle.cgx_c.proofs.reading.cgx_check.Statement.{statement}
 use Rattle.cgx_c.proofs.reading.cgx_check.Tie as tie
@@ -7,11 +9,11 @@ use Rattle.cgx_c.proofs.reading.cgx_check.Tie as tie
 check-requires : tie.Need-check-requires
 check-requires c κs = search needs
 
-plain-verdict-requires : tie.Need-plain-verdict-requires
-plain-verdict-requires c κs = search needs
+tell-verdict-requires : tie.Need-tell-verdict-requires
+tell-verdict-requires c κs = search needs
 
 returns : tie.Need-returns
-returns c = c .plain-verdict .ensures ∙ c .before .check .ensures .0
+returns c = let a = c .before .before .before .before .args in c .tell-verdict .ensures ∙ ap (λ (v : Verdict). verdictTold v (a .at .now)) (c .before .before .check .ensures .0)
 
 pub cgx-check-spec : {M : Type 1} → statement M
-cgx-check-spec = tie.close (tie.spec check-requires plain-verdict-requires returns)
+cgx-check-spec = tie.close (tie.spec check-requires tell-verdict-requires returns)

@@ -1,34 +1,60 @@
--- The answer of the call, as C has it.
-use Rattle.cgx_write_given.specs.declared.Writer.{Writer}
-use Rattle.cgx_write_makers.specs.Makers.{allIn, frameCalls}
+-- The answer of the call, left in lent memory.
 use mathlib.Core.Path.{_≡_, _∙_}
+use lib.IntN.{pos}
+use lib.ListN.{getD}
 use mir.Syntax.{w32}
 use Rattle.numbers.proofs.Signed.{back}
+use Rattle.cgx_c_writer.specs.Parts.{frameAround}
+use Rattle.cgx_write_makers.specs.Makers.{frameCalls, allIn}
+use Rattle.cgx_write_given.specs.declared.Writer.{Writer}
 use Rattle.cgx_c.proofs.Calls.{called}
 use borrow.Author.Needs.{needs}
 use Rattle.cgx_c.proofs.writing.cgx_write_caption_frame.Statement.{statement}
 use Rattle.cgx_c.proofs.writing.cgx_write_caption_frame.Tie as tie
 
-writer-from-requires : tie.Need-writer-from-requires
-writer-from-requires c κs = search needs
+element-copy-out-left : tie.Need-element-copy-out-left
+element-copy-out-left c = search needs
+
+element-copy-out-bottom : tie.Need-element-copy-out-bottom
+element-copy-out-bottom c = search needs
+
+element-copy-out-right : tie.Need-element-copy-out-right
+element-copy-out-right c = search needs
+
+element-copy-out-top : tie.Need-element-copy-out-top
+element-copy-out-top c = search needs
+
+writer-of-requires : tie.Need-writer-of-requires
+writer-of-requires c κs = search needs
 
 caption-frame-requires : tie.Need-caption-frame-requires
 caption-frame-requires c κs = search needs
 
-plain-answer-requires : tie.Need-plain-answer-requires
-plain-answer-requires c κs = search needs
+settle-requires : tie.Need-settle-requires
+settle-requires c κs = search needs
 
 same-length : tie.Need-same-length
 same-length c = search needs
 
 returns : tie.Need-returns
 returns c =
-    let t = c .before .before .before .before .before .before .before .before in
+    let t = c .before .before .before .before .before .before .before .before .before .before .before .before .before .before .before in
     let s = t .args in
-    let q : allIn (s .buf .now) (c .before .before .before .before .writer-from .result) _ ≡ _ = λ i. allIn (s .buf .now) (c .before .before .before .before .writer-from .result) (frameCalls (back w32 {z = s .left} (t .fits .left .sfits) i) (back w32 {z = s .bottom} (t .fits .bottom .sfits) i) (back w32 {z = s .right} (t .fits .right .sfits) i) (back w32 {z = s .top} (t .fits .top .sfits) i) (s .label .now)) in
-    called (λ (w : Writer). allIn (s .buf .now) w (frameCalls (s .left) (s .bottom) (s .right) (s .top) (s .label .now))) _ (c .plain-answer .ensures) (c .before .before .before .before .writer-from .ensures) (c .before .before .before .caption-frame .ensures .0 ∙ q)
+    let z = s .sides .now in
+    let v = c .before .before .before .before .before .before .writer-of .result in
+    let q : allIn (s .buf .now) v _ ≡ _ = λ i. allIn (s .buf .now) v (frameCalls (back w32 {z = getD z 0 (pos 0)} (c .before .before .before .before .before .before .before .before .before .before .before .before .left .given) i) (back w32 {z = getD z 1 (pos 0)} (c .before .before .before .before .before .before .before .before .before .before .before .bottom .given) i) (back w32 {z = getD z 2 (pos 0)} (c .before .before .before .before .before .before .before .before .before .before .right .given) i) (back w32 {z = getD z 3 (pos 0)} (c .before .before .before .before .before .before .before .before .before .top .given) i) (s .label .now)) in
+    called (λ (w : Writer). allIn (s .buf .now) w (frameAround z (s .label .now))) (s .writer .now) (s .at .now) _ (c .settle .ensures) (c .before .before .before .before .before .before .writer-of .ensures) (c .before .before .before .before .before .caption-frame .ensures .0 ∙ q)
 
 pub cgx-write-caption-frame-spec : {M : Type 1} → statement M
 cgx-write-caption-frame-spec =
     tie.close
-    (tie.spec writer-from-requires caption-frame-requires plain-answer-requires same-length returns)
+    (tie.spec
+    element-copy-out-left
+    element-copy-out-bottom
+    element-copy-out-right
+    element-copy-out-top
+    writer-of-requires
+    caption-frame-requires
+    settle-requires
+    same-length
+    returns)

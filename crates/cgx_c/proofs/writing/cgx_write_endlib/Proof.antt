@@ -1,30 +1,30 @@
--- The answer of the call, as C has it.
-use Rattle.cgx_write_given.specs.declared.Writer.{Writer}
+-- The answer of the call, left in lent memory.
 use Rattle.cgx_write_given.specs.Given.{givenEndlib}
+use Rattle.cgx_write_given.specs.declared.Writer.{Writer}
 use Rattle.cgx_write_given.specs.Writing.{callIn}
 use Rattle.cgx_c.proofs.Calls.{called}
 use borrow.Author.Needs.{needs}
 use Rattle.cgx_c.proofs.writing.cgx_write_endlib.Statement.{statement}
 use Rattle.cgx_c.proofs.writing.cgx_write_endlib.Tie as tie
 
-writer-from-requires : tie.Need-writer-from-requires
-writer-from-requires c κs = search needs
+writer-of-requires : tie.Need-writer-of-requires
+writer-of-requires c κs = search needs
 
 endlib-requires : tie.Need-endlib-requires
 endlib-requires c κs = search needs
 
-plain-answer-requires : tie.Need-plain-answer-requires
-plain-answer-requires c κs = search needs
+settle-requires : tie.Need-settle-requires
+settle-requires c κs = search needs
 
 same-length : tie.Need-same-length
 same-length c = search needs
 
 returns : tie.Need-returns
 returns c =
-    let s = c .before .before .before .before .before .before .before .args in
-    called (λ (w : Writer). callIn (s .buf .now) w givenEndlib) _ (c .plain-answer .ensures) (c .before .before .before .before .writer-from .ensures) (c .before .before .before .endlib .ensures .0)
+    let t = c .before .before .before .before .before .before .before .before .before .before in
+    let s = t .args in
+    called (λ (w : Writer). callIn (s .buf .now) w (givenEndlib)) (s .writer .now) (s .at .now) _ (c .settle .ensures) (c .before .before .before .before .before .before .writer-of .ensures) (c .before .before .before .before .before .endlib .ensures .0)
 
 pub cgx-write-endlib-spec : {M : Type 1} → statement M
 cgx-write-endlib-spec =
-    tie.close
-    (tie.spec writer-from-requires endlib-requires plain-answer-requires same-length returns)
+    tie.close (tie.spec writer-of-requires endlib-requires settle-requires same-length returns)

@@ -1,31 +1,49 @@
--- The answer of the call, as C has it.
+-- The answer of the call, left in lent memory.
+use mathlib.Core.Path.{_≡_, _∙_}
 use mathlib.Core.Option.{none}
-use Rattle.cgx_write_given.specs.declared.Writer.{Writer}
 use Rattle.cgx_write_given.specs.Given.{givenLayer}
+use Rattle.cgx_c_writer.specs.Parts.{layerNoIn, dataTypeIn}
+use Rattle.cgx_write_given.specs.declared.Writer.{Writer}
 use Rattle.cgx_write_given.specs.Writing.{callIn}
 use Rattle.cgx_c.proofs.Calls.{called}
 use borrow.Author.Needs.{needs}
 use Rattle.cgx_c.proofs.writing.cgx_write_layer.Statement.{statement}
 use Rattle.cgx_c.proofs.writing.cgx_write_layer.Tie as tie
 
-writer-from-requires : tie.Need-writer-from-requires
-writer-from-requires c κs = search needs
+writer-of-requires : tie.Need-writer-of-requires
+writer-of-requires c κs = search needs
+
+layer-no-requires : tie.Need-layer-no-requires
+layer-no-requires c κs = search needs
+
+data-type-requires : tie.Need-data-type-requires
+data-type-requires c κs = search needs
 
 layer-requires : tie.Need-layer-requires
 layer-requires c κs = search needs
 
-plain-answer-requires : tie.Need-plain-answer-requires
-plain-answer-requires c κs = search needs
+settle-requires : tie.Need-settle-requires
+settle-requires c κs = search needs
 
 same-length : tie.Need-same-length
 same-length c = search needs
 
 returns : tie.Need-returns
 returns c =
-    let s = c .before .before .before .before .before .before .before .args in
-    called (λ (w : Writer). callIn (s .buf .now) w (givenLayer (s .number) (s .datatype) none)) _ (c .plain-answer .ensures) (c .before .before .before .before .writer-from .ensures) (c .before .before .before .layer .ensures .0)
+    let t = c .before .before .before .before .before .before .before .before .before .before .before .before in
+    let s = t .args in
+    let v = c .before .before .before .before .before .before .before .before .writer-of .result in
+    let q : callIn (s .buf .now) v _ ≡ _ = λ i. callIn (s .buf .now) v (givenLayer (c .before .before .before .before .before .before .before .layer-no .ensures i) (c .before .before .before .before .before .before .data-type .ensures i) none) in
+    called (λ (w : Writer). callIn (s .buf .now) w (givenLayer (layerNoIn (s .id .now)) (dataTypeIn (s .id .now)) none)) (s .writer .now) (s .at .now) _ (c .settle .ensures) (c .before .before .before .before .before .before .before .before .writer-of .ensures) (c .before .before .before .before .before .layer .ensures .0 ∙ q)
 
 pub cgx-write-layer-spec : {M : Type 1} → statement M
 cgx-write-layer-spec =
     tie.close
-    (tie.spec writer-from-requires layer-requires plain-answer-requires same-length returns)
+    (tie.spec
+    writer-of-requires
+    layer-no-requires
+    data-type-requires
+    layer-requires
+    settle-requires
+    same-length
+    returns)

@@ -1,30 +1,56 @@
--- The answer of the call, as C has it.
-use Rattle.cgx_write_given.specs.declared.Writer.{Writer}
+-- The answer of the call, left in lent memory.
+use mathlib.Core.Path.{_≡_, _∙_}
 use Rattle.cgx_write_given.specs.Given.{givenLibrary}
+use Rattle.cgx_c_writer.specs.Parts.{dateIn, realIn}
+use Rattle.cgx_write_given.specs.declared.Writer.{Writer}
 use Rattle.cgx_write_given.specs.Writing.{callIn}
 use Rattle.cgx_c.proofs.Calls.{called}
 use borrow.Author.Needs.{needs}
 use Rattle.cgx_c.proofs.writing.cgx_write_library.Statement.{statement}
 use Rattle.cgx_c.proofs.writing.cgx_write_library.Tie as tie
 
-writer-from-requires : tie.Need-writer-from-requires
-writer-from-requires c κs = search needs
+writer-of-requires : tie.Need-writer-of-requires
+writer-of-requires c κs = search needs
+
+real-of-requires : tie.Need-real-of-requires
+real-of-requires c κs = search needs
+
+real-of-requires-2 : tie.Need-real-of-requires-2
+real-of-requires-2 c κs = search needs
+
+date-of-requires : tie.Need-date-of-requires
+date-of-requires c κs = search needs
+
+date-of-requires-2 : tie.Need-date-of-requires-2
+date-of-requires-2 c κs = search needs
 
 library-requires : tie.Need-library-requires
 library-requires c κs = search needs
 
-plain-answer-requires : tie.Need-plain-answer-requires
-plain-answer-requires c κs = search needs
+settle-requires : tie.Need-settle-requires
+settle-requires c κs = search needs
 
 same-length : tie.Need-same-length
 same-length c = search needs
 
 returns : tie.Need-returns
 returns c =
-    let s = c .before .before .before .before .before .before .before .before .before .before .args in
-    called (λ (w : Writer). callIn (s .buf .now) w (givenLibrary (s .version) (s .munit .bytes) (s .uunit .bytes) (s .created) (s .modified) (s .name .now))) _ (c .plain-answer .ensures) (c .before .before .before .before .writer-from .ensures) (c .before .before .before .library .ensures .0)
+    let t = c .before .before .before .before .before .before .before .before .before .before .before .before .before .before .before in
+    let s = t .args in
+    let v = c .before .before .before .before .before .before .before .before .before .before .writer-of .result in
+    let q : callIn (s .buf .now) v _ ≡ _ = λ i. callIn (s .buf .now) v (givenLibrary (s .version) (c .before .before .before .before .before .before .before .before .before .real-of .ensures i) (c .before .before .before .before .before .before .before .before .real-of2 .ensures i) (c .before .before .before .before .before .before .before .date-of .ensures i) (c .before .before .before .before .before .before .date-of2 .ensures i) (s .name .now)) in
+    called (λ (w : Writer). callIn (s .buf .now) w (givenLibrary (s .version) (realIn (s .munit .now)) (realIn (s .uunit .now)) (dateIn (s .created .now)) (dateIn (s .modified .now)) (s .name .now))) (s .writer .now) (s .at .now) _ (c .settle .ensures) (c .before .before .before .before .before .before .before .before .before .before .writer-of .ensures) (c .before .before .before .before .before .library .ensures .0 ∙ q)
 
 pub cgx-write-library-spec : {M : Type 1} → statement M
 cgx-write-library-spec =
     tie.close
-    (tie.spec writer-from-requires library-requires plain-answer-requires same-length returns)
+    (tie.spec
+    writer-of-requires
+    real-of-requires
+    real-of-requires-2
+    date-of-requires
+    date-of-requires-2
+    library-requires
+    settle-requires
+    same-length
+    returns)

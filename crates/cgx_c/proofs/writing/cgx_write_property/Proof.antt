@@ -1,35 +1,35 @@
--- The answer of the call, as C has it.
-use Rattle.cgx_write_given.specs.declared.Writer.{Writer}
-use Rattle.cgx_write_given.specs.Given.{givenProperty}
-use Rattle.cgx_write_given.specs.Writing.{callIn}
+-- The answer of the call, left in lent memory.
 use mathlib.Core.Path.{_≡_, _∙_}
 use mir.Syntax.{w32}
 use Rattle.numbers.proofs.Signed.{back}
+use Rattle.cgx_write_given.specs.Given.{givenProperty}
+use Rattle.cgx_write_given.specs.declared.Writer.{Writer}
+use Rattle.cgx_write_given.specs.Writing.{callIn}
 use Rattle.cgx_c.proofs.Calls.{called}
 use borrow.Author.Needs.{needs}
 use Rattle.cgx_c.proofs.writing.cgx_write_property.Statement.{statement}
 use Rattle.cgx_c.proofs.writing.cgx_write_property.Tie as tie
 
-writer-from-requires : tie.Need-writer-from-requires
-writer-from-requires c κs = search needs
+writer-of-requires : tie.Need-writer-of-requires
+writer-of-requires c κs = search needs
 
 property-requires : tie.Need-property-requires
 property-requires c κs = search needs
 
-plain-answer-requires : tie.Need-plain-answer-requires
-plain-answer-requires c κs = search needs
+settle-requires : tie.Need-settle-requires
+settle-requires c κs = search needs
 
 same-length : tie.Need-same-length
 same-length c = search needs
 
 returns : tie.Need-returns
 returns c =
-    let t = c .before .before .before .before .before .before .before .before in
+    let t = c .before .before .before .before .before .before .before .before .before .before .before in
     let s = t .args in
-    let q : callIn (s .buf .now) (c .before .before .before .before .writer-from .result) _ ≡ _ = λ i. callIn (s .buf .now) (c .before .before .before .before .writer-from .result) (givenProperty (back w32 {z = s .number} (t .fits .number .sfits) i) (s .value .now)) in
-    called (λ (w : Writer). callIn (s .buf .now) w (givenProperty (s .number) (s .value .now))) _ (c .plain-answer .ensures) (c .before .before .before .before .writer-from .ensures) (c .before .before .before .property .ensures .0 ∙ q)
+    let v = c .before .before .before .before .before .before .writer-of .result in
+    let q : callIn (s .buf .now) v _ ≡ _ = λ i. callIn (s .buf .now) v (givenProperty (back w32 {z = s .number} (t .fits .number .sfits) i) (s .value .now)) in
+    called (λ (w : Writer). callIn (s .buf .now) w (givenProperty (s .number) (s .value .now))) (s .writer .now) (s .at .now) _ (c .settle .ensures) (c .before .before .before .before .before .before .writer-of .ensures) (c .before .before .before .before .before .property .ensures .0 ∙ q)
 
 pub cgx-write-property-spec : {M : Type 1} → statement M
 cgx-write-property-spec =
-    tie.close
-    (tie.spec writer-from-requires property-requires plain-answer-requires same-length returns)
+    tie.close (tie.spec writer-of-requires property-requires settle-requires same-length returns)

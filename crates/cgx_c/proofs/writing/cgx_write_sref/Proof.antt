@@ -1,30 +1,44 @@
--- The answer of the call, as C has it.
-use Rattle.cgx_write_given.specs.declared.Writer.{Writer}
+-- The answer of the call, left in lent memory.
+use mathlib.Core.Path.{_≡_, _∙_}
 use Rattle.cgx_write_given.specs.Given.{givenSref}
+use Rattle.cgx_c_writer.specs.Parts.{givenPlaced}
+use Rattle.cgx_write_given.specs.declared.Writer.{Writer}
 use Rattle.cgx_write_given.specs.Writing.{callIn}
 use Rattle.cgx_c.proofs.Calls.{called}
 use borrow.Author.Needs.{needs}
 use Rattle.cgx_c.proofs.writing.cgx_write_sref.Statement.{statement}
 use Rattle.cgx_c.proofs.writing.cgx_write_sref.Tie as tie
 
-writer-from-requires : tie.Need-writer-from-requires
-writer-from-requires c κs = search needs
+placement-of-requires : tie.Need-placement-of-requires
+placement-of-requires c κs = search needs
+
+writer-of-requires : tie.Need-writer-of-requires
+writer-of-requires c κs = search needs
 
 sref-requires : tie.Need-sref-requires
 sref-requires c κs = search needs
 
-plain-answer-requires : tie.Need-plain-answer-requires
-plain-answer-requires c κs = search needs
+settle-requires : tie.Need-settle-requires
+settle-requires c κs = search needs
 
 same-length : tie.Need-same-length
 same-length c = search needs
 
 returns : tie.Need-returns
 returns c =
-    let s = c .before .before .before .before .before .before .before .before .before .before .args in
-    called (λ (w : Writer). callIn (s .buf .now) w (givenSref (s .flags) (s .at) (s .angle .bytes) (s .magnif .bytes) (s .grid) (s .name .now))) _ (c .plain-answer .ensures) (c .before .before .before .before .writer-from .ensures) (c .before .before .before .sref .ensures .0)
+    let t = c .before .before .before .before .before .before .before .before .before .before .before .before .before .before in
+    let s = t .args in
+    let v = c .before .before .before .before .before .before .writer-of .result in
+    let q : callIn (s .buf .now) v _ ≡ _ = λ i. callIn (s .buf .now) v (let p = c .before .before .before .before .before .before .before .before .before .before .before .placement-of .ensures i in givenSref (s .flags) (p .at) (p .angle) (p .magnif) (p .grid) (s .name .now)) in
+    called (λ (w : Writer). callIn (s .buf .now) w (givenPlaced (s .flags) (s .placement .now) (s .name .now))) (s .writer .now) (s .at .now) _ (c .settle .ensures) (c .before .before .before .before .before .before .writer-of .ensures) (c .before .before .before .before .before .sref .ensures .0 ∙ q)
 
 pub cgx-write-sref-spec : {M : Type 1} → statement M
 cgx-write-sref-spec =
     tie.close
-    (tie.spec writer-from-requires sref-requires plain-answer-requires same-length returns)
+    (tie.spec
+    placement-of-requires
+    writer-of-requires
+    sref-requires
+    settle-requires
+    same-length
+    returns)

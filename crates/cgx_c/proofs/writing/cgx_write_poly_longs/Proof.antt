@@ -1,0 +1,30 @@
+-- The answer of the call, left in lent memory.
+use Rattle.cgx_write_given.specs.Given.{givenPoly}
+use Rattle.cgx_write_given.specs.declared.Writer.{Writer}
+use Rattle.cgx_write_given.specs.Writing.{callIn}
+use Rattle.cgx_c.proofs.Calls.{called}
+use borrow.Author.Needs.{needs}
+use Rattle.cgx_c.proofs.writing.cgx_write_poly_longs.Statement.{statement}
+use Rattle.cgx_c.proofs.writing.cgx_write_poly_longs.Tie as tie
+
+writer-of-requires : tie.Need-writer-of-requires
+writer-of-requires c κs = search needs
+
+poly-requires : tie.Need-poly-requires
+poly-requires c κs = search needs
+
+settle-requires : tie.Need-settle-requires
+settle-requires c κs = search needs
+
+same-length : tie.Need-same-length
+same-length c = search needs
+
+returns : tie.Need-returns
+returns c =
+    let t = c .before .before .before .before .before .before .before .before .before .before in
+    let s = t .args in
+    called (λ (w : Writer). callIn (s .buf .now) w (givenPoly (s .longs .now))) (s .writer .now) (s .at .now) _ (c .settle .ensures) (c .before .before .before .before .before .before .writer-of .ensures) (c .before .before .before .before .before .poly .ensures .0)
+
+pub cgx-write-poly-longs-spec : {M : Type 1} → statement M
+cgx-write-poly-longs-spec =
+    tie.close (tie.spec writer-of-requires poly-requires settle-requires same-length returns)

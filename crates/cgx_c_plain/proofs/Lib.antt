@@ -1,2 +1,0 @@
--- `Back`: cursors as plain places, and back.
-pub mod Back

@@ -1,2 +1,0 @@
--- What plain places mean.
-pub mod Plain

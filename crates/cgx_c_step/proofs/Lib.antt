@@ -1,0 +1,2 @@
+-- `Steps`: what a step answers and leaves, by what it comes to.
+pub mod Steps

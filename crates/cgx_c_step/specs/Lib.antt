@@ -1,0 +1,2 @@
+-- What a step leaves in lent memory.
+pub mod Lent

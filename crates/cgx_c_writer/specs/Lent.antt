@@ -1,0 +1,43 @@
+-- What a call of the writer leaves in a C caller's memory: the words of its writer, the number `at`, and the buffer. Definitions only.
+use mathlib.Core.Bool.{cond}
+use mathlib.Core.List.{List}
+use Prim.Native.Nat.{ℕ}
+use lib.Dec.{eqb}
+use Rattle.cgx_format_cursor.specs.Cursors.{offsetIn}
+use Rattle.cgx_c_places.specs.Words.{cursorWords, cursorIn, toldAt}
+use Rattle.cgx_write_given.specs.declared.Writer.{Writer}
+use Rattle.cgx_write_given.specs.declared.Answer.{Answer}
+use Rattle.cgx_write_given.specs.Writing.{firstWriter, Outcome, isTaken, Begun}
+
+-- The writer that a caller's words say.
+abbrev pub writerIn : List ℕ → Writer
+writerIn w = record { cursor = cursorIn w }
+
+-- The words of the writer, where w are those before: "A refusal appends nothing and hands back its old place", every bit of it.
+unfoldable pub wordsAfter : List ℕ → Answer → List ℕ
+wordsAfter w a = cond (isTaken a) (cursorWords (a .writer .cursor)) w
+
+-- What a call returns, and what it leaves in the memory that it was lent.
+pub record Lent : Type 0 where
+  pub number : ℕ
+  pub writer : List ℕ
+  pub at : ℕ
+  pub buffer : List ℕ
+
+-- Of a call with this outcome, where the writer's words and `at` were these.
+abbrev pub lent : List ℕ → ℕ → Outcome → Lent
+lent w at o = record { number = o .answer .number; writer = wordsAfter w (o .answer); at = toldAt (offsetIn (o .answer .at)) at; buffer = o .buffer }
+
+-- ---- the start, which names no offset
+
+-- Of the number that a start answers.
+unfoldable pub startWords : List ℕ → ℕ → List ℕ
+startWords w n = cond (eqb n 0) (cursorWords (firstWriter .cursor)) w
+
+pub record LentStart : Type 0 where
+  pub number : ℕ
+  pub writer : List ℕ
+  pub buffer : List ℕ
+
+abbrev pub lentStart : List ℕ → Begun → LentStart
+lentStart w b = record { number = b .answer; writer = startWords w (b .answer); buffer = b .buffer }
