@@ -15,7 +15,7 @@ SANITIZE := -g -fsanitize=address,undefined -fno-sanitize-recover=all
 ARCHIVE := target/staticlib/libcgx_c.a
 SOURCES := crates.txt $(shell find crates -name '*.rt' -o -name '*.antt')
 EXAMPLES := build/boxes build/labels build/samples
-TESTS := build/test build/test-sanitized build/labels-sanitized build/vectors build/freestanding
+TESTS := build/test build/test-sanitized build/labels-sanitized build/vectors build/freestanding build/stack
 SUITE := $(wildcard tests/c/*.c)
 SUITE_HEADERS := $(wildcard tests/c/*.h) include/cgx.h
 
@@ -48,6 +48,9 @@ build/vectors: tests/c/programs/vectors.c include/cgx.h build/libcgx.a
 build/freestanding: tests/c/programs/freestanding.c include/cgx.h build/libcgx.a
 	$(CC) $(STRICT) $(CFLAGS) -ffreestanding -fno-stack-protector -nostdlib -static -Iinclude $< build/libcgx.a $(LDFLAGS) -o $@
 
+build/stack: tests/c/programs/stack.c include/cgx.h build/libcgx.a
+	$(CC) $(STRICT) $(CFLAGS) $(CPPFLAGS) -Iinclude $< build/libcgx.a $(LDFLAGS) -o $@
+
 test: all $(TESTS)
 	bash tests/c/run
 
@@ -55,7 +58,7 @@ samples: $(EXAMPLES)
 	mkdir -p examples/drawings
 	build/samples examples/drawings
 	for drawing in examples/drawings/*.cgx; do \
-	    build/labels $$drawing > examples/$$(basename $$drawing .cgx).expected 2>&1 || [ $$? -eq 1 ] || exit 1; \
+	    build/labels < $$drawing > examples/$$(basename $$drawing .cgx).expected 2>&1 || [ $$? -eq 1 ] || exit 1; \
 	done
 
 clean:

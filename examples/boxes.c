@@ -4,20 +4,17 @@
 
 int main(void) {
     static uint8_t file[65536];
-    size_t size = fread(file, 1, sizeof file, stdin), boxes = 0;
-    cgx_start_answer start = cgx_start(file, size);
-    if (!start.ready) return 1;
-    cgx_place place = start.place;
+    uint64_t size = fread(file, 1, sizeof file, stdin), boxes = 0, at = 0;
+    cgx_place place;
     cgx_view view;
-    cgx_step_answer step = cgx_step(file, size, &place, &view);
-    while (step.status == CGX_STEP_RECORD) {
+    uint32_t answer = cgx_start(file, size, &place, &at);
+    while (answer == CGX_OK && (answer = cgx_step(file, size, &place, &view, &at)) == CGX_OK) {
         if (view.kind == CGX_BOX) boxes += view.fields.box.boxes.count;
-        step = cgx_step(file, size, &place, &view);
     }
-    if (step.status == CGX_STEP_REFUSED) {
-        printf("refused %u at %zu\n", step.number, step.at.at);
+    if (answer != CGX_DONE) {
+        printf("refused %u at %llu\n", (unsigned)answer, (unsigned long long)at);
         return 1;
     }
-    printf("%zu boxes\n", boxes);
+    printf("%llu boxes\n", (unsigned long long)boxes);
     return 0;
 }

@@ -9,90 +9,87 @@
 /* A drawing in the making. */
 typedef struct {
     uint8_t bytes[8192];
-    cgx_place place;
+    cgx_writer writer;
+    uint64_t at; /* what a refusal names */
 } sheet;
 
-/* What every call of the writer begins with, and what the next call goes on from. */
-#define ON(s) (s)->bytes, sizeof (s)->bytes, (s)->place
+/* What every call of the writer begins with. */
+#define ON(s) (s)->bytes, sizeof (s)->bytes, &(s)->writer, &(s)->at
 
-static void add(sheet *s, cgx_answer a) {
-    if (!a.taken) {
-        fprintf(stderr, "refused %u after offset %zu\n", (unsigned)a.number, a.place.at);
+/* Every call must be taken. */
+static void taken(uint32_t answer) {
+    if (answer != CGX_OK) {
+        fprintf(stderr, "refused %u: %s\n", (unsigned)answer, cgx_refusal_words(answer));
         exit(1);
     }
-    s->place = a.place;
 }
 
 /* A text as the writer takes it: pointer and length. */
 #define TEXT(t) (const uint8_t *)(t), strlen(t)
 
-/* Numbers as the writer takes them. */
-#define NUMBERS(a) (a), sizeof(a) / sizeof(a)[0]
+/* Boxes or points as the writer takes them: pointer and count. */
+#define ALL(a) (a), sizeof(a) / sizeof(a)[0]
 
-static const cgx_date created = {2025, 2, 6, 14, 9, 45};
-static const cgx_date modified = {2025, 2, 6, 14, 33, 0};
+static const cgx_date created = {2025, 2, 6, 14, 9, 45, 0};
+static const cgx_date modified = {2025, 2, 6, 14, 33, 0, 0};
 
-/* A coordinate is 1/1000 of a user unit, and 1/1000000000 of a metre. */
-static const cgx_eight milli = {{0x3e, 0x41, 0x89, 0x37, 0x4b, 0xc6, 0xa7, 0xf0}};
-static const cgx_eight nano = {{0x39, 0x44, 0xb8, 0x2f, 0xa0, 0x9b, 0x5a, 0x54}};
+static cgx_real real(double value) {
+    cgx_real r = {0};
+    taken(cgx_real_from_double(&value, &r));
+    return r;
+}
 
 static void begin(sheet *s, const char *name) {
-    cgx_start_answer start;
+    /* A coordinate is 1/1000 of a user unit, and 1/1000000000 of a metre. */
+    const cgx_real milli = real(1e-3), nano = real(1e-9);
     memset(s, 0, sizeof *s);
-    start = cgx_write_start(s->bytes, sizeof s->bytes);
-    s->place = start.place;
-    add(s, cgx_write_library(ON(s), 1, milli, nano, created, modified, TEXT(name)));
+    taken(cgx_write_start(s->bytes, sizeof s->bytes, &s->writer));
+    taken(cgx_write_library(ON(s), 1, &milli, &nano, &created, &modified, TEXT(name)));
 }
 
 static void cell(sheet *s, const char *name) {
-    add(s, cgx_write_struct(ON(s), created, modified, TEXT(name)));
+    taken(cgx_write_struct(ON(s), &created, &modified, TEXT(name)));
 }
 
 static void layer(sheet *s, int16_t number, int16_t datatype, const char *name) {
-    cgx_layer_number n = {number};
-    cgx_data_type d = {datatype};
-    if (name == NULL) {
-        add(s, cgx_write_layer(ON(s), n, d));
-    } else {
-        add(s, cgx_write_named_layer(ON(s), n, d, TEXT(name)));
-    }
+    const cgx_layer_id l = {number, datatype};
+    taken(name == NULL ? cgx_write_layer(ON(s), &l) : cgx_write_named_layer(ON(s), &l, TEXT(name)));
 }
 
 static void label(sheet *s, int32_t x, int32_t y, const char *text) {
-    cgx_point at = {x, y};
-    add(s, cgx_write_text(ON(s), 0x50, at, 200, TEXT(text)));
+    taken(cgx_write_text(ON(s), 0x50, x, y, 200, TEXT(text)));
 }
 
 /* ---- the inverter: a transistor of each kind under one gate */
 
 static void inverter_cell(sheet *s) {
-    static const int32_t well[] = {-400, 1400, 1400, 3000};
-    static const int32_t active[] = {0, 0, 1000, 600, 0, 1800, 1000, 2600};
-    static const int32_t gate[] = {500, -200, 500, 2800};
-    static const int32_t contacts[] = {
-        100, 200, 260, 360, 740, 200, 900, 360, 100, 2100, 260, 2260, 740, 2100, 900, 2260};
-    static const int32_t ground[] = {-400, -500, 1400, -260, 80, -260, 280, 380};
-    static const int32_t supply[] = {-400, 2860, 1400, 3100, 80, 2080, 280, 2860};
-    static const int32_t output[] = {720, 180, 920, 180, 920, 2280, 720, 2280, 720, 180};
+    static const cgx_box well[] = {{-400, 1400, 1400, 3000}};
+    static const cgx_box active[] = {{0, 0, 1000, 600}, {0, 1800, 1000, 2600}};
+    static const cgx_point gate[] = {{500, -200}, {500, 2800}};
+    static const cgx_box contacts[] = {
+        {100, 200, 260, 360}, {740, 200, 900, 360}, {100, 2100, 260, 2260}, {740, 2100, 900, 2260}};
+    static const cgx_box ground[] = {{-400, -500, 1400, -260}, {80, -260, 280, 380}};
+    static const cgx_box supply[] = {{-400, 2860, 1400, 3100}, {80, 2080, 280, 2860}};
+    static const cgx_point output[] = {{720, 180}, {920, 180}, {920, 2280}, {720, 2280}, {720, 180}};
     cell(s, "INV");
-    add(s, cgx_write_cprpty(ON(s), 1, TEXT("inverter, 1x")));
+    taken(cgx_write_cprpty(ON(s), 1, TEXT("inverter, 1x")));
     layer(s, 1, 0, "nwell");
-    add(s, cgx_write_box(ON(s), NUMBERS(well)));
+    taken(cgx_write_box(ON(s), ALL(well)));
     layer(s, 2, 0, "active");
-    add(s, cgx_write_box(ON(s), NUMBERS(active)));
+    taken(cgx_write_box(ON(s), ALL(active)));
     layer(s, 3, 0, "poly");
-    add(s, cgx_write_wire(ON(s), 180, NUMBERS(gate)));
+    taken(cgx_write_wire(ON(s), 180, ALL(gate)));
     label(s, 500, 1300, "A");
     layer(s, 4, 0, NULL);
-    add(s, cgx_write_box(ON(s), NUMBERS(contacts)));
+    taken(cgx_write_box(ON(s), ALL(contacts)));
     layer(s, 5, 0, "metal1");
-    add(s, cgx_write_property(ON(s), 2, TEXT("net=GND")));
-    add(s, cgx_write_box(ON(s), NUMBERS(ground)));
-    add(s, cgx_write_property(ON(s), 2, TEXT("net=VDD")));
-    add(s, cgx_write_box(ON(s), NUMBERS(supply)));
-    add(s, cgx_write_property(ON(s), 2, TEXT("net=Y")));
-    add(s, cgx_write_property(ON(s), 3, TEXT("load=2")));
-    add(s, cgx_write_poly(ON(s), NUMBERS(output)));
+    taken(cgx_write_property(ON(s), 2, TEXT("net=GND")));
+    taken(cgx_write_box(ON(s), ALL(ground)));
+    taken(cgx_write_property(ON(s), 2, TEXT("net=VDD")));
+    taken(cgx_write_box(ON(s), ALL(supply)));
+    taken(cgx_write_property(ON(s), 2, TEXT("net=Y")));
+    taken(cgx_write_property(ON(s), 3, TEXT("load=2")));
+    taken(cgx_write_poly(ON(s), ALL(output)));
     label(s, 500, -380, "GND");
     label(s, 500, 2980, "VDD");
     label(s, 820, 1300, "Y");
@@ -101,55 +98,49 @@ static void inverter_cell(sheet *s) {
 static void inverter(sheet *s) {
     begin(s, "inverter");
     inverter_cell(s);
-    add(s, cgx_write_endlib(ON(s)));
+    taken(cgx_write_endlib(ON(s)));
 }
 
 /* ---- the chip */
 
-static const cgx_eight two = {{0x41, 0x20}};
-static const cgx_eight ninety = {{0x42, 0x5a}};
-static const cgx_eight no_real = {{0}};
-static const cgx_grid no_grid = {0, 0, {0, 0}, {0, 0}};
-
 static void single(sheet *s, const char *name, int32_t x, int32_t y) {
-    cgx_point at = {x, y};
-    add(s, cgx_write_sref(ON(s), 0, at, no_real, no_real, no_grid, TEXT(name)));
+    const cgx_placement p = {.point = {x, y}};
+    taken(cgx_write_sref(ON(s), 0, &p, TEXT(name)));
 }
 
 /* Reflected, turned by 90 degrees, and twice as large. */
-static void turned(sheet *s, const char *name, cgx_point at) {
-    uint8_t flags = CGX_SREF_ANGLE | CGX_SREF_MAGNIF | CGX_SREF_REFLECT;
-    add(s, cgx_write_sref(ON(s), flags, at, ninety, two, no_grid, TEXT(name)));
+static void turned(sheet *s, const char *name, int32_t x, int32_t y) {
+    const cgx_placement p = {.point = {x, y}, .angle = real(90), .magnif = real(2)};
+    taken(cgx_write_sref(ON(s), CGX_SREF_ANGLE | CGX_SREF_MAGNIF | CGX_SREF_REFLECT, &p, TEXT(name)));
 }
 
-static void array(sheet *s, const char *name, cgx_point at, cgx_grid grid) {
-    add(s, cgx_write_sref(ON(s), CGX_SREF_ARRAY, at, no_real, no_real, grid, TEXT(name)));
+static void array(sheet *s, const char *name, cgx_placement p) {
+    taken(cgx_write_sref(ON(s), CGX_SREF_ARRAY, &p, TEXT(name)));
 }
 
 static void pad_cell(sheet *s) {
-    static const int32_t octagon[] = {
-        0, 2000, 0, 6000, 2000, 8000, 6000, 8000, 8000, 6000, 8000, 2000, 6000, 0, 2000, 0, 0, 2000};
-    static const int32_t rim[] = {1000, 1000, 7000, 1000, 7000, 7000, 1000, 7000, 1000, 1000};
+    static const cgx_point octagon[] = {
+        {0, 2000}, {0, 6000}, {2000, 8000}, {6000, 8000}, {8000, 6000}, {8000, 2000}, {6000, 0}, {2000, 0}, {0, 2000}};
+    static const cgx_point rim[] = {{1000, 1000}, {7000, 1000}, {7000, 7000}, {1000, 7000}, {1000, 1000}};
     cell(s, "PAD");
     layer(s, 6, 0, "metal2");
-    add(s, cgx_write_property(ON(s), 4, TEXT("bond")));
-    add(s, cgx_write_poly(ON(s), NUMBERS(octagon)));
+    taken(cgx_write_property(ON(s), 4, TEXT("bond")));
+    taken(cgx_write_poly(ON(s), ALL(octagon)));
     layer(s, 7, 1, NULL);
-    add(s, cgx_write_styled_wire(ON(s), CGX_END_EXTENDED, 400, NUMBERS(rim)));
+    taken(cgx_write_styled_wire(ON(s), CGX_END_EXTENDED, 400, ALL(rim)));
     label(s, 4000, 4000, "pad");
 }
 
 static void ring_cell(sheet *s) {
-    static const int32_t feedback[] = {-600, 1300, -600, -900, 6000, -900, 6000, 1300};
-    cgx_point origin = {0, 0};
-    cgx_grid three = {3, 1, {5400, 0}, {0, 3600}};
+    static const cgx_point feedback[] = {{-600, 1300}, {-600, -900}, {6000, -900}, {6000, 1300}};
+    const cgx_placement three = {.cols = 3, .rows = 1, .across = {5400, 0}, .up = {0, 3600}};
     cell(s, "RING");
-    add(s, cgx_write_cprpty(ON(s), 1, TEXT("ring oscillator")));
-    add(s, cgx_write_cprpty(ON(s), -7, TEXT("")));
-    array(s, "INV", origin, three);
+    taken(cgx_write_cprpty(ON(s), 1, TEXT("ring oscillator")));
+    taken(cgx_write_cprpty(ON(s), -7, TEXT("")));
+    array(s, "INV", three);
     layer(s, 5, 0, "metal1");
-    add(s, cgx_write_property(ON(s), 2, TEXT("net=loop")));
-    add(s, cgx_write_styled_wire(ON(s), CGX_END_ROUNDED, 240, NUMBERS(feedback)));
+    taken(cgx_write_property(ON(s), 2, TEXT("net=loop")));
+    taken(cgx_write_styled_wire(ON(s), CGX_END_ROUNDED, 240, ALL(feedback)));
     label(s, 2700, -900, "loop");
 }
 
@@ -168,17 +159,19 @@ static void captions(sheet *s) {
 }
 
 static void top_cell(sheet *s) {
-    cgx_point left = {0, 0}, right = {40000, 0}, centre = {20000, 20000};
-    cgx_grid left_column = {1, 4, {10000, 0}, {0, 40000}}, right_column = {1, 4, {50000, 0}, {40000, 40000}};
+    const cgx_placement left = {.cols = 1, .rows = 4, .across = {10000, 0}, .up = {0, 40000}};
+    const cgx_placement right = {
+        .point = {40000, 0}, .cols = 1, .rows = 4, .across = {50000, 0}, .up = {40000, 40000}};
+    const cgx_box frame = {-1000, -1000, 51000, 43000};
     cell(s, "TOP");
-    array(s, "PAD", left, left_column);
-    add(s, cgx_write_property(ON(s), 5, TEXT("side=right")));
-    add(s, cgx_write_property(ON(s), 6, TEXT("pins=4")));
-    array(s, "PAD", right, right_column);
-    turned(s, "RING", centre);
+    array(s, "PAD", left);
+    taken(cgx_write_property(ON(s), 5, TEXT("side=right")));
+    taken(cgx_write_property(ON(s), 6, TEXT("pins=4")));
+    array(s, "PAD", right);
+    turned(s, "RING", 20000, 20000);
     single(s, "RING", 15000, 5000);
     captions(s);
-    add(s, cgx_write_caption_frame(ON(s), -1000, -1000, 51000, 43000, TEXT("TOP")));
+    taken(cgx_write_caption_frame(ON(s), &frame, TEXT("TOP")));
 }
 
 static void chip(sheet *s) {
@@ -187,17 +180,17 @@ static void chip(sheet *s) {
     pad_cell(s);
     ring_cell(s);
     top_cell(s);
-    add(s, cgx_write_endlib(ON(s)));
+    taken(cgx_write_endlib(ON(s)));
 }
 
 /* ---- files */
 
-static void save(const char *folder, const char *name, const uint8_t *bytes, size_t size) {
+static void save(const char *folder, const char *name, const uint8_t *bytes, uint64_t size) {
     char path[512];
     FILE *f;
     snprintf(path, sizeof path, "%s/%s", folder, name);
     f = fopen(path, "wb");
-    if (f == NULL || fwrite(bytes, 1, size, f) != size || fclose(f) != 0) {
+    if (f == NULL || fwrite(bytes, 1, (size_t)size, f) != size || fclose(f) != 0) {
         fprintf(stderr, "%s cannot be written\n", path);
         exit(1);
     }
@@ -210,9 +203,9 @@ int main(int argc, char **argv) {
         return 2;
     }
     inverter(&s);
-    save(argv[1], "inverter.cgx", s.bytes, s.place.at);
-    save(argv[1], "refused.cgx", s.bytes, s.place.at - 10);
+    save(argv[1], "inverter.cgx", s.bytes, s.writer.place.at);
+    save(argv[1], "refused.cgx", s.bytes, s.writer.place.at - 10);
     chip(&s);
-    save(argv[1], "chip.cgx", s.bytes, s.place.at);
+    save(argv[1], "chip.cgx", s.bytes, s.writer.place.at);
     return 0;
 }

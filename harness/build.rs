@@ -40,6 +40,7 @@ fn link_archive(archive: &Path) {
 
 fn link_plain_c() {
     println!("cargo:rerun-if-changed=c");
+    println!("cargo:rerun-if-changed=../include");
     println!("cargo:rerun-if-env-changed=CC");
     let folder = PathBuf::from(env::var_os("OUT_DIR").expect("cargo sets it"));
     let object = folder.join("cgx_plain.o");
@@ -52,6 +53,7 @@ fn link_plain_c() {
             "-Wall",
             "-Wextra",
             "-fPIC",
+            "-I../include",
             "-c",
             "c/cgx_plain.c",
             "-o",

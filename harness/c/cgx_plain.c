@@ -1,6 +1,10 @@
 #include "cgx_plain.h"
 
+#include <stdbool.h>
 #include <string.h>
+
+/* The first type byte that is no kind. */
+enum { UNKNOWN = CGX_ENDLIB + 1 };
 
 /* ---- numbers, the high byte first */
 
@@ -149,18 +153,20 @@ static int body_fault(uint8_t type, uint8_t flags, const uint8_t *b, size_t n)
 
 /* ---- rule 6, and the context after a record */
 
-static bool allowed(const struct cgx_place *c, uint8_t type)
+static bool library_seen(const cgx_place *c) { return (c->seen & CGX_SEEN_LIBRARY) != 0; }
+static bool ended(const cgx_place *c) { return (c->seen & CGX_SEEN_ENDLIB) != 0; }
+
+static bool allowed(const cgx_place *c, uint8_t type)
 {
-    bool none = c->run_first == CGX_NONE;
-    bool cell = c->library && c->cell != CGX_NONE;
+    bool library = library_seen(c), none = c->properties.count == 0, cell = library && c->cell != 0;
     switch (type) {
     case CGX_LIBRARY:
-        return !c->library && none;
+        return !library && none;
     case CGX_STRUCT:
     case CGX_ENDLIB:
-        return c->library && none;
+        return library && none;
     case CGX_CPRPTY:
-        return cell && none && c->fresh;
+        return cell && none && (c->seen & CGX_SEEN_FRESH) != 0;
     case CGX_LAYER:
         return cell && none;
     case CGX_PROPERTY:
@@ -170,59 +176,57 @@ static bool allowed(const struct cgx_place *c, uint8_t type)
     case CGX_POLY:
     case CGX_WIRE:
     case CGX_TEXT:
-        return cell && c->layer != CGX_NONE;
+        return cell && c->layer != 0;
     default:
-        return c->library;
+        return library;
     }
 }
 
-static void pass(struct cgx_place *c, uint8_t type, size_t at)
+static void pass(cgx_place *c, uint8_t type, uint64_t at)
 {
     switch (type) {
     case CGX_LIBRARY:
-        c->library = true;
-        c->cell = c->layer = CGX_NONE;
+        c->seen = CGX_SEEN_LIBRARY;
+        c->cell = c->layer = 0;
         break;
     case CGX_STRUCT:
         c->cell = at;
-        c->layer = CGX_NONE;
-        c->fresh = true;
+        c->layer = 0;
+        c->seen = CGX_SEEN_LIBRARY | CGX_SEEN_FRESH;
         return;
     case CGX_CPRPTY:
         return;
     case CGX_PROPERTY:
-        if (c->run_first == CGX_NONE) {
-            c->run_first = at;
-            c->run_count = 0;
-        }
-        c->run_count++;
+        if (c->properties.count == 0)
+            c->properties.first = at;
+        c->properties.count++;
         break;
     case CGX_LAYER:
         c->layer = at;
         break;
     case CGX_ENDLIB:
-        c->ended = true;
+        c->seen |= CGX_SEEN_ENDLIB;
         break;
     default:
-        c->run_first = CGX_NONE;
+        c->properties.first = c->properties.count = 0;
         break;
     }
-    c->fresh = false;
+    c->seen &= CGX_SEEN_LIBRARY | CGX_SEEN_ENDLIB;
 }
 
 /* ---- one record */
 
-static const struct cgx_verdict GOOD = {0, CGX_NONE};
-
-static struct cgx_verdict refused(int number, size_t at)
+/* A refusal that names an offset. */
+static uint32_t refused(uint32_t number, uint64_t where, uint64_t *at)
 {
-    return (struct cgx_verdict){(uint8_t)number, at};
+    *at = where;
+    return number;
 }
 
 /* Rules 3 to 12 of the record at an offset up to the length. */
-static inline int record_fault(const uint8_t *file, size_t len, const struct cgx_place *c, size_t at, size_t *size)
+static inline uint32_t record_fault(const uint8_t *file, uint64_t len, const cgx_place *c, uint64_t at, uint64_t *size)
 {
-    size_t left = len - at;
+    uint64_t left = len - at;
     if (left < 4)
         return left == 0 ? 3 : 4;
     const uint8_t *r = file + at;
@@ -233,157 +237,136 @@ static inline int record_fault(const uint8_t *file, size_t len, const struct cgx
         return 4;
     if (!allowed(c, r[2]))
         return 6;
-    return r[2] < CGX_UNKNOWN ? body_fault(r[2], r[3], r + 4, *size - 4) : 0;
+    return r[2] < UNKNOWN ? (uint32_t)body_fault(r[2], r[3], r + 4, *size - 4) : 0;
 }
 
-static const struct cgx_place START = {4, CGX_NONE, CGX_NONE, CGX_NONE, 0, false, false, false};
-
-struct cgx_verdict cgx_plain_start(const uint8_t *file, size_t len, struct cgx_place *place)
+uint32_t cgx_plain_start(const uint8_t *file, uint64_t len, cgx_place *place, uint64_t *at)
 {
     if (len < 4 || memcmp(file, "cgx", 3) != 0)
-        return refused(1, 0);
+        return refused(1, 0, at);
     if (file[3] != 0)
-        return refused(2, 0);
-    *place = START;
-    return GOOD;
+        return refused(2, 0, at);
+    *place = (cgx_place){.at = 4};
+    return 0;
 }
 
 /* Checks the file and sums up the known records. */
-static struct cgx_verdict check_and_measure(const uint8_t *file, size_t len, size_t *known)
+static uint32_t check_and_measure(const uint8_t *file, uint64_t len, uint64_t *known, uint64_t *where)
 {
-    struct cgx_place c;
-    struct cgx_verdict start = cgx_plain_start(file, len, &c);
-    if (start.number != 0)
+    cgx_place c;
+    uint32_t start = cgx_plain_start(file, len, &c, where);
+    if (start != 0)
         return start;
-    size_t at = 4, size;
-    *known = 4;
-    while (!c.ended) {
-        int fault = record_fault(file, len, &c, at, &size);
+    uint64_t at = 4, size, sum = 4;
+    while (!ended(&c)) {
+        uint32_t fault = record_fault(file, len, &c, at, &size);
         if (fault != 0)
-            return refused(fault, at);
-        if (file[at + 2] < CGX_UNKNOWN) {
+            return refused(fault, at, where);
+        if (file[at + 2] < UNKNOWN) {
             pass(&c, file[at + 2], at);
-            *known += size;
+            sum += size;
         }
         at += size;
     }
-    return at == len ? GOOD : refused(13, at);
+    if (at != len)
+        return refused(13, at, where);
+    *known = sum;
+    return 0;
 }
 
-struct cgx_verdict cgx_plain_check(const uint8_t *file, size_t len)
+uint32_t cgx_plain_check(const uint8_t *file, uint64_t len, uint64_t *at)
 {
-    size_t known;
-    return check_and_measure(file, len, &known);
+    uint64_t known;
+    return check_and_measure(file, len, &known, at);
 }
 
 /* ---- views */
 
-const size_t cgx_plain_view_size = sizeof(struct cgx_view);
+static cgx_real real_at(const uint8_t *p) { return (cgx_real){be64(p)}; }
 
-static struct cgx_real real_at(const uint8_t *p)
-{
-    uint64_t bits = be64(p), m = bits & MANTISSA;
-    struct cgx_real r = {.exact = true, .negative = bits >> 63, .e = bits >> 56 & 127, .m = m, .value = 0};
-    if (m == 0)
-        return r;
-    int zeros = __builtin_ctzll(m);
-    uint64_t odd = m >> zeros;
-    if (odd >> 53 != 0) {
-        r.exact = false;
-        return r;
-    }
-    /* The power lies from -312 to 251, so both factors and their product are exact. */
-    uint64_t scale = (uint64_t)(4 * (r.e - 64) - 56 + zeros + 1023) << 52;
-    double power;
-    memcpy(&power, &scale, sizeof power);
-    r.value = (r.negative ? -(double)odd : (double)odd) * power;
-    return r;
-}
+static cgx_point point_at(const uint8_t *p) { return (cgx_point){long_at(p), long_at(p + 4)}; }
 
-static struct cgx_date date_at(const uint8_t *p)
+static cgx_date date_at(const uint8_t *p)
 {
-    return (struct cgx_date){(int16_t)be16(p), p[2], p[3], p[4], p[5], p[6]};
+    return (cgx_date){(int16_t)be16(p), p[2], p[3], p[4], p[5], p[6], 0};
 }
 
 /* The text of a good string that ends where the record ends. */
-static struct cgx_span text_at(const uint8_t *file, size_t at, size_t end)
+static cgx_text text_at(const uint8_t *file, uint64_t at, uint64_t end)
 {
-    return (struct cgx_span){at, end - at - (file[end - 2] == 0 ? 2 : 1)};
+    return (cgx_text){at, end - at - (file[end - 2] == 0 ? 2 : 1)};
 }
 
-static void sref_view(const uint8_t *file, size_t at, size_t end, struct cgx_view *v)
+static void sref_view(const uint8_t *file, uint64_t at, uint64_t end, cgx_view *v)
 {
     const uint8_t *p = file + at + 4;
-    v->of.sref.x = long_at(p);
-    v->of.sref.y = long_at(p + 4);
+    cgx_placement *q = &v->fields.sref.placement;
+    *q = (cgx_placement){.point = point_at(p)};
     p += 8;
-    v->of.sref.has_angle = v->flags & 1;
-    v->of.sref.has_magnif = v->flags & 2;
-    v->of.sref.has_array = v->flags & 8;
-    if (v->flags & 1) {
-        v->of.sref.angle = real_at(p);
+    if (v->flags & CGX_SREF_ANGLE) {
+        q->angle = real_at(p);
         p += 8;
     }
-    if (v->flags & 2) {
-        v->of.sref.magnif = real_at(p);
+    if (v->flags & CGX_SREF_MAGNIF) {
+        q->magnif = real_at(p);
         p += 8;
     }
-    if (v->flags & 8) {
-        v->of.sref.cols = long_at(p);
-        v->of.sref.rows = long_at(p + 4);
-        for (int i = 0; i < 2; i++) {
-            v->of.sref.across[i] = long_at(p + 8 + 4 * i);
-            v->of.sref.up[i] = long_at(p + 16 + 4 * i);
-        }
+    if (v->flags & CGX_SREF_ARRAY) {
+        q->cols = long_at(p);
+        q->rows = long_at(p + 4);
+        q->across = point_at(p + 8);
+        q->up = point_at(p + 16);
         p += 24;
     }
-    v->of.sref.name = text_at(file, (size_t)(p - file), end);
+    v->fields.sref.name = text_at(file, (uint64_t)(p - file), end);
 }
 
-static void fill_fields(const uint8_t *file, size_t at, size_t size, struct cgx_view *v)
+static void fill_fields(const uint8_t *file, uint64_t at, uint64_t size, cgx_view *v)
 {
     const uint8_t *b = file + at + 4;
-    size_t body = at + 4, end = at + size;
+    cgx_fields *f = &v->fields;
+    uint64_t body = at + 4, end = at + size;
     switch (v->kind) {
     case CGX_LIBRARY:
-        v->of.library.munit = real_at(b);
-        v->of.library.uunit = real_at(b + 8);
-        v->of.library.created = date_at(b + 16);
-        v->of.library.modified = date_at(b + 24);
-        v->of.library.name = text_at(file, body + 32, end);
+        f->library.munit = real_at(b);
+        f->library.uunit = real_at(b + 8);
+        f->library.created = date_at(b + 16);
+        f->library.modified = date_at(b + 24);
+        f->library.name = text_at(file, body + 32, end);
         break;
     case CGX_STRUCT:
-        v->of.structure.created = date_at(b);
-        v->of.structure.modified = date_at(b + 8);
-        v->of.structure.name = text_at(file, body + 16, end);
+        f->structure.created = date_at(b);
+        f->structure.modified = date_at(b + 8);
+        f->structure.name = text_at(file, body + 16, end);
         break;
     case CGX_CPRPTY:
     case CGX_PROPERTY:
-        v->of.property.number = long_at(b);
-        v->of.property.value = text_at(file, body + 4, end);
+        f->property.number = long_at(b);
+        f->property.unused = 0;
+        f->property.value = text_at(file, body + 4, end);
         break;
     case CGX_LAYER:
-        v->of.layer.number = (int16_t)be16(b);
-        v->of.layer.datatype = (int16_t)be16(b + 2);
-        v->of.layer.named = size > 8;
-        if (size > 8)
-            v->of.layer.name = text_at(file, body + 4, end);
+        f->layer.id.number = (int16_t)be16(b);
+        f->layer.id.datatype = (int16_t)be16(b + 2);
+        f->layer.named = size > 8;
+        f->layer.name = size > 8 ? text_at(file, body + 4, end) : (cgx_text){0, 0};
         break;
     case CGX_BOX:
-        v->of.box.boxes = (struct cgx_list){body, (size - 4) / 16};
+        f->box.boxes = (cgx_list){body, (size - 4) / 16};
         break;
     case CGX_POLY:
-        v->of.poly.points = (struct cgx_list){body, (size - 4) / 8};
+        f->poly.points = (cgx_list){body, (size - 4) / 8};
         break;
     case CGX_WIRE:
-        v->of.wire.width = long_at(b);
-        v->of.wire.points = (struct cgx_list){body + 4, (size - 8) / 8};
+        f->wire.width = long_at(b);
+        f->wire.unused = 0;
+        f->wire.points = (cgx_list){body + 4, (size - 8) / 8};
         break;
     case CGX_TEXT:
-        v->of.text.x = long_at(b);
-        v->of.text.y = long_at(b + 4);
-        v->of.text.width = long_at(b + 8);
-        v->of.text.label = text_at(file, body + 12, end);
+        f->text.point = point_at(b);
+        f->text.width = long_at(b + 8);
+        f->text.unused = 0;
+        f->text.label = text_at(file, body + 12, end);
         break;
     case CGX_SREF:
         sref_view(file, at, end, v);
@@ -393,50 +376,40 @@ static void fill_fields(const uint8_t *file, size_t at, size_t size, struct cgx_
     }
 }
 
-static bool kept_above(size_t kept, size_t at) { return kept != CGX_NONE && kept > at; }
-
 /* Rule 16. */
-static bool forged(const struct cgx_place *c, size_t len)
+static bool forged(const cgx_place *c, uint64_t len)
 {
-    return c->at < 4 || c->at % 2 != 0 || c->at > len || kept_above(c->cell, c->at) || kept_above(c->layer, c->at) ||
-           (c->run_first != CGX_NONE && (c->run_first > c->at || c->run_count > c->at));
+    return c->at < 4 || c->at % 2 != 0 || c->at > len || c->cell > c->at || c->layer > c->at ||
+           (c->properties.count != 0 && (c->properties.first > c->at || c->properties.count > c->at));
 }
 
-static enum cgx_status refuse(struct cgx_verdict *why, int number, size_t at)
-{
-    *why = refused(number, at);
-    return CGX_REFUSED;
-}
-
-enum cgx_status cgx_plain_step(const uint8_t *file, size_t len, struct cgx_place *place,
-                               struct cgx_view *view, struct cgx_verdict *why)
+uint32_t cgx_plain_step(const uint8_t *file, uint64_t len, cgx_place *place, cgx_view *view, uint64_t *where)
 {
     if (forged(place, len))
-        return refuse(why, 16, CGX_NONE);
-    if (place->ended)
-        return place->at == len ? CGX_DONE : refuse(why, 13, place->at);
-    size_t at = place->at, size;
+        return 16;
+    if (ended(place))
+        return place->at == len ? CGX_DONE : refused(13, place->at, where);
+    uint64_t at = place->at, size;
     for (;;) {
-        int fault = record_fault(file, len, place, at, &size);
+        uint32_t fault = record_fault(file, len, place, at, &size);
         if (fault != 0)
-            return refuse(why, fault, at);
-        if (file[at + 2] < CGX_UNKNOWN)
+            return refused(fault, at, where);
+        if (file[at + 2] < UNKNOWN)
             break;
         at += size;
     }
     uint8_t kind = file[at + 2];
-    bool takes_run = kind >= CGX_BOX && kind <= CGX_SREF && place->run_first != CGX_NONE;
+    bool takes_run = kind >= CGX_BOX && kind <= CGX_SREF && place->properties.count != 0;
     view->kind = kind;
     view->flags = file[at + 3];
     view->at = at;
-    view->run_first = takes_run ? place->run_first : CGX_NONE;
-    view->run_count = takes_run ? place->run_count : 0;
+    view->properties = takes_run ? place->properties : (cgx_list){0, 0};
     pass(place, kind, at);
     place->at = at + size;
     view->cell = place->cell;
     view->layer = place->layer;
     fill_fields(file, at, size, view);
-    return CGX_RECORD;
+    return CGX_OK;
 }
 
 /* ---- the normal form */
@@ -485,40 +458,49 @@ static void normalise(uint8_t *record)
         put64(p, normal_real(be64(p)));
 }
 
-struct cgx_verdict cgx_plain_normal_form(const uint8_t *file, size_t len, uint8_t *out, size_t room, size_t *made)
+uint32_t cgx_plain_normal_form(const uint8_t *file, uint64_t len, uint8_t *out, uint64_t room,
+                               uint64_t *length, uint64_t *where)
 {
-    size_t known = 0;
-    struct cgx_verdict verdict = check_and_measure(file, len, &known);
-    if (verdict.number != 0)
+    uint64_t known = 0;
+    uint32_t verdict = check_and_measure(file, len, &known, where);
+    if (verdict != 0)
         return verdict;
     if (room < known)
-        return refused(14, CGX_NONE);
+        return 14;
     memcpy(out, file, 4);
     out += 4;
-    for (size_t at = 4; at < len;) {
-        size_t size = be16(file + at);
-        if (file[at + 2] < CGX_UNKNOWN) {
+    for (uint64_t at = 4; at < len;) {
+        uint64_t size = be16(file + at);
+        if (file[at + 2] < UNKNOWN) {
             memcpy(out, file + at, size);
             normalise(out);
             out += size;
         }
         at += size;
     }
-    *made = known;
-    return GOOD;
+    *length = known;
+    return 0;
 }
 
 /* ---- the writer */
 
-/* Rules 15 and 14 of a record of this size, whose other rules hold. */
-static struct cgx_verdict room_for(const struct cgx_place *c, size_t room, size_t size)
+/* Rules 16 and 6 of a call. */
+static uint32_t call_fault(const cgx_place *c, uint64_t room, uint8_t type, uint64_t *where)
 {
-    if (size > 65534)
-        return refused(15, CGX_NONE);
-    return size > room - c->at ? refused(14, CGX_NONE) : GOOD;
+    if (forged(c, room))
+        return 16;
+    return ended(c) || !allowed(c, type) ? refused(6, c->at, where) : 0;
 }
 
-static uint8_t *put_header(uint8_t *buf, struct cgx_place *c, size_t size, uint8_t type, uint8_t flags)
+/* Rules 15 and 14 of a record of this size, whose other rules hold. */
+static uint32_t room_fault(const cgx_place *c, uint64_t room, uint64_t size)
+{
+    if (size > CGX_MAX_SIZE)
+        return 15;
+    return size > room - c->at ? 14 : 0;
+}
+
+static uint8_t *put_header(uint8_t *buf, cgx_place *c, uint64_t size, uint8_t type, uint8_t flags)
 {
     uint8_t *p = buf + c->at;
     put16(p, (uint16_t)size);
@@ -529,53 +511,59 @@ static uint8_t *put_header(uint8_t *buf, struct cgx_place *c, size_t size, uint8
     return p + 4;
 }
 
-static bool upright(const int32_t *sides, size_t count)
+static bool upright(const cgx_box *boxes, uint64_t count)
 {
-    for (size_t i = 0; i < count; i += 4)
-        if (sides[i] > sides[i + 2] || sides[i + 1] > sides[i + 3])
+    for (uint64_t i = 0; i < count; i++)
+        if (boxes[i].left > boxes[i].right || boxes[i].bottom > boxes[i].top)
             return false;
     return true;
 }
 
-struct cgx_verdict cgx_plain_write_box(uint8_t *buf, size_t room, struct cgx_place *place,
-                                       const int32_t *sides, size_t count)
+uint32_t cgx_plain_write_box_longs(uint8_t *buf, uint64_t room, cgx_writer *writer, uint64_t *at,
+                                   const int32_t *longs, uint64_t long_count)
 {
-    if (forged(place, room))
-        return refused(16, CGX_NONE);
-    if (place->ended || !allowed(place, CGX_BOX))
-        return refused(6, place->at);
-    if (count == 0 || count % 4 != 0)
-        return refused(8, place->at);
-    if (!upright(sides, count))
-        return refused(10, place->at);
-    size_t size = 4 + 4 * count;
-    struct cgx_verdict verdict = room_for(place, room, size);
-    if (verdict.number != 0)
-        return verdict;
+    const cgx_box *boxes = (const cgx_box *)longs;
+    uint64_t count = long_count / 4;
+    cgx_place *place = &writer->place;
+    uint32_t fault = call_fault(place, room, CGX_BOX, at);
+    if (fault != 0)
+        return fault;
+    if (long_count % 4 != 0 || count == 0)
+        return refused(8, place->at, at);
+    if (!upright(boxes, count))
+        return refused(10, place->at, at);
+    uint64_t size = 4 + 16 * count;
+    fault = room_fault(place, room, size);
+    if (fault != 0)
+        return fault;
     uint8_t *p = put_header(buf, place, size, CGX_BOX, 0);
-    for (size_t i = 0; i < count; i++)
-        put32(p + 4 * i, (uint32_t)sides[i]);
-    return GOOD;
+    for (uint64_t i = 0; i < count; i++, p += 16) {
+        put32(p, (uint32_t)boxes[i].left);
+        put32(p + 4, (uint32_t)boxes[i].bottom);
+        put32(p + 8, (uint32_t)boxes[i].right);
+        put32(p + 12, (uint32_t)boxes[i].top);
+    }
+    return CGX_OK;
 }
 
-struct cgx_verdict cgx_plain_write_text(uint8_t *buf, size_t room, struct cgx_place *place, uint8_t flags,
-                                        int32_t x, int32_t y, int32_t width, const uint8_t *label, size_t len)
+uint32_t cgx_plain_write_text(uint8_t *buf, uint64_t room, cgx_writer *writer, uint64_t *at, uint8_t flags,
+                              int32_t x, int32_t y, int32_t width, const uint8_t *label, uint64_t len)
 {
-    if (forged(place, room))
-        return refused(16, CGX_NONE);
-    if (place->ended || !allowed(place, CGX_TEXT))
-        return refused(6, place->at);
+    cgx_place *place = &writer->place;
+    uint32_t fault = call_fault(place, room, CGX_TEXT, at);
+    if (fault != 0)
+        return fault;
     if (memchr(label, 0, len) != NULL)
-        return refused(11, place->at);
-    size_t size = 16 + ((len + 2) & ~(size_t)1);
-    struct cgx_verdict verdict = room_for(place, room, size);
-    if (verdict.number != 0)
-        return verdict;
+        return refused(11, place->at, at);
+    uint64_t size = 16 + ((len + 2) & ~(uint64_t)1);
+    fault = room_fault(place, room, size);
+    if (fault != 0)
+        return fault;
     uint8_t *p = put_header(buf, place, size, CGX_TEXT, meant_flags(CGX_TEXT, flags));
     put32(p, (uint32_t)x);
     put32(p + 4, (uint32_t)y);
     put32(p + 8, (uint32_t)width);
     memcpy(p + 12, label, len);
     memset(p + 12 + len, 0, size - 16 - len);
-    return GOOD;
+    return CGX_OK;
 }

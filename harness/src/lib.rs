@@ -9,6 +9,7 @@
 //! * [`archive`] calls the proved crates, with the same types.
 //! * [`plain_c`] calls the plain C that both are measured against.
 //! * [`compare`] asks both the same and tells where they differ.
+//! * [`words`] has the structs of the C header, as both are lent them.
 //! * [`vectors`] has the stored files and what the reference says of them.
 
 #![deny(unsafe_code)]
@@ -20,3 +21,4 @@ pub mod generate;
 pub mod plain_c;
 pub mod reference;
 pub mod vectors;
+pub mod words;

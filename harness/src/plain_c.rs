@@ -1,132 +1,89 @@
-//! The plain C of `c/cgx_plain.c`, which the archive is measured against.
+//! The plain C of `c/cgx_plain.c`, which the archive is measured against. It is
+//! called as the archive is, and lent the same.
 
 #![allow(unsafe_code)]
 
-use crate::reference::Refusal;
-
-/// A refusal with number 0 is none, and the last offset is no offset.
-#[repr(C)]
-struct Verdict {
-    number: u8,
-    at: usize,
-}
-
-impl From<Verdict> for Result<(), Refusal> {
-    fn from(Verdict { number, at }: Verdict) -> Self {
-        match number {
-            0 => Ok(()),
-            _ => Err(Refusal {
-                number,
-                at: (at != usize::MAX).then_some(at),
-            }),
-        }
-    }
-}
-
-/// Where a walk or a writer is.
-#[repr(C)]
-#[derive(Clone, Copy)]
-pub struct Place {
-    at: usize,
-    cell: usize,
-    layer: usize,
-    run_first: usize,
-    run_count: usize,
-    library: bool,
-    fresh: bool,
-    ended: bool,
-}
-
-impl Place {
-    /// In an open cell with an open layer, for the writer.
-    pub fn in_a_layer(place: crate::reference::Place) -> Place {
-        Place {
-            at: place.offset,
-            cell: place.cell.unwrap_or(usize::MAX),
-            layer: place.layer.unwrap_or(usize::MAX),
-            run_first: usize::MAX,
-            run_count: 0,
-            library: place.library_seen,
-            fresh: place.after_struct,
-            ended: place.ended,
-        }
-    }
-}
-
-/// Only the members that all kinds have are looked at from here; the fields
-/// after them take up to this much.
-#[repr(C)]
-pub struct View {
-    pub kind: u8,
-    pub flags: u8,
-    pub at: usize,
-    pub cell: usize,
-    pub layer: usize,
-    pub run_first: usize,
-    pub run_count: usize,
-    fields: [u64; 24],
-}
+use crate::reference::{Place, Refusal};
+use crate::words::{self, PlaceWords, ViewWords};
 
 #[rustfmt::skip]
 extern "C" {
-    fn cgx_plain_check(file: *const u8, len: usize) -> Verdict;
-    fn cgx_plain_start(file: *const u8, len: usize, place: *mut Place) -> Verdict;
-    fn cgx_plain_step(file: *const u8, len: usize, place: *mut Place, view: *mut View, why: *mut Verdict) -> u32;
-    fn cgx_plain_normal_form(file: *const u8, len: usize, out: *mut u8, room: usize, made: *mut usize) -> Verdict;
-    fn cgx_plain_write_box(buf: *mut u8, room: usize, place: *mut Place, sides: *const i32, count: usize) -> Verdict;
-    fn cgx_plain_write_text(buf: *mut u8, room: usize, place: *mut Place, flags: u8, x: i32, y: i32, width: i32, label: *const u8, len: usize) -> Verdict;
-    static cgx_plain_view_size: usize;
+    fn cgx_plain_check(file: *const u8, size: u64, at: *mut u64) -> u32;
+    fn cgx_plain_start(file: *const u8, size: u64, place: *mut PlaceWords, at: *mut u64) -> u32;
+    fn cgx_plain_step(file: *const u8, size: u64, place: *mut PlaceWords, view: *mut ViewWords, at: *mut u64) -> u32;
+    fn cgx_plain_normal_form(file: *const u8, size: u64, out: *mut u8, room: u64, length: *mut u64, at: *mut u64) -> u32;
+    fn cgx_plain_write_box_longs(buf: *mut u8, room: u64, writer: *mut PlaceWords, at: *mut u64, longs: *const i32, long_count: u64) -> u32;
+    fn cgx_plain_write_text(buf: *mut u8, room: u64, writer: *mut PlaceWords, at: *mut u64, flags: u8, x: i32, y: i32, width: i32, label: *const u8, len: u64) -> u32;
+}
+
+/// An answer that is 0, or a refusal, which names an offset where it is 1 to 13.
+fn outcome(answer: u32, at: u64) -> Result<(), Refusal> {
+    match answer {
+        0 => Ok(()),
+        _ => Err(Refusal {
+            number: u8::try_from(answer).expect("a refusal"),
+            at: (answer <= 13).then_some(at as usize),
+        }),
+    }
+}
+
+/// The writer of a place.
+pub fn writer(place: Place) -> PlaceWords {
+    words::of_place(place)
 }
 
 pub fn check(file: &[u8]) -> Result<(), Refusal> {
-    unsafe { cgx_plain_check(file.as_ptr(), file.len()) }.into()
+    let mut at = 0;
+    let answer = unsafe { cgx_plain_check(file.as_ptr(), file.len() as u64, &mut at) };
+    outcome(answer, at)
 }
 
 /// Walks the whole file and shows each view.
-pub fn walk(file: &[u8], mut show: impl FnMut(&View)) -> Result<(), Refusal> {
-    assert!(size_of::<View>() >= unsafe { cgx_plain_view_size });
-    let mut view = View {
-        kind: 0,
-        flags: 0,
-        at: 0,
-        cell: 0,
-        layer: 0,
-        run_first: 0,
-        run_count: 0,
-        fields: [0; 24],
-    };
-    let mut place = Place::in_a_layer(crate::reference::Place::START);
-    let mut why = Verdict { number: 0, at: 0 };
-    let start = unsafe { cgx_plain_start(file.as_ptr(), file.len(), &mut place) };
-    Result::from(start)?;
+pub fn walk(file: &[u8], mut show: impl FnMut(&ViewWords)) -> Result<(), Refusal> {
+    const DONE: u32 = 256;
+    let (bytes, size) = (file.as_ptr(), file.len() as u64);
+    let (mut place, mut view, mut at) = ([0; 6], [0; 14], 0);
+    let start = unsafe { cgx_plain_start(bytes, size, &mut place, &mut at) };
+    outcome(start, at)?;
     loop {
-        let status =
-            unsafe { cgx_plain_step(file.as_ptr(), file.len(), &mut place, &mut view, &mut why) };
-        match status {
+        match unsafe { cgx_plain_step(bytes, size, &mut place, &mut view, &mut at) } {
             0 => show(&view),
-            1 => return Ok(()),
-            _ => return why.into(),
+            DONE => return Ok(()),
+            answer => return outcome(answer, at),
         }
     }
 }
 
 pub fn normal_form(file: &[u8], out: &mut [u8]) -> Result<usize, Refusal> {
-    let mut made = 0;
-    let (to, room) = (out.as_mut_ptr(), out.len());
-    let verdict = unsafe { cgx_plain_normal_form(file.as_ptr(), file.len(), to, room, &mut made) };
-    Result::from(verdict).map(|()| made)
+    let (bytes, size) = (file.as_ptr(), file.len() as u64);
+    let (to, room) = (out.as_mut_ptr(), out.len() as u64);
+    let (mut length, mut at) = (0, 0);
+    let answer = unsafe { cgx_plain_normal_form(bytes, size, to, room, &mut length, &mut at) };
+    outcome(answer, at).map(|()| length as usize)
 }
 
-pub fn boxes(buffer: &mut [u8], place: &mut Place, sides: &[i32]) -> Result<(), Refusal> {
-    let (buf, room) = (buffer.as_mut_ptr(), buffer.len());
-    unsafe { cgx_plain_write_box(buf, room, place, sides.as_ptr(), sides.len()) }.into()
+pub fn boxes(buffer: &mut [u8], writer: &mut PlaceWords, sides: &[i32]) -> Result<(), Refusal> {
+    let (buf, room) = (buffer.as_mut_ptr(), buffer.len() as u64);
+    let mut at = 0;
+    let answer = unsafe {
+        cgx_plain_write_box_longs(
+            buf,
+            room,
+            writer,
+            &mut at,
+            sides.as_ptr(),
+            sides.len() as u64,
+        )
+    };
+    outcome(answer, at)
 }
 
 #[rustfmt::skip]
-pub fn text(buffer: &mut [u8], place: &mut Place, flags: u8, [x, y]: [i32; 2], width: i32, label: &[u8]) -> Result<(), Refusal> {
-    let (buf, room) = (buffer.as_mut_ptr(), buffer.len());
-    unsafe {
-        cgx_plain_write_text(buf, room, place, flags, x, y, width, label.as_ptr(), label.len())
-    }
-    .into()
+pub fn text(buffer: &mut [u8], writer: &mut PlaceWords, flags: u8, [x, y]: [i32; 2], width: i32, label: &[u8]) -> Result<(), Refusal> {
+    let (buf, room) = (buffer.as_mut_ptr(), buffer.len() as u64);
+    let mut at = 0;
+    let answer = unsafe {
+        cgx_plain_write_text(buf, room, writer, &mut at, flags, x, y, width, label.as_ptr(), label.len() as u64)
+    };
+    outcome(answer, at)
 }

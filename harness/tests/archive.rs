@@ -25,6 +25,26 @@ fn archive_answers_as_the_reference_does() {
     assert_eq!((report.passed(), report.failed()), (600, 0));
 }
 
+/// The version that `cgx.h` has.
+#[test]
+fn archive_has_its_version() {
+    assert_eq!(cgx_harness::archive::version(), 2 << 16);
+}
+
+/// A real or a double that has no equal leaves what was lent, and the rest goes
+/// there and back.
+#[test]
+fn reals_and_doubles() {
+    let mut report = Report::new(false);
+    let mut rng = Rng::new(10);
+    for _ in 0..200 {
+        report.case("reals", "test", &[], |case, _| {
+            compare::reals(case, &mut rng);
+        });
+    }
+    assert_eq!((report.passed(), report.failed()), (200, 0));
+}
+
 #[test]
 fn a_difference_is_counted() {
     let mut report = Report::new(false);
@@ -38,7 +58,10 @@ fn a_difference_is_counted() {
     report.case("byte differs", "test", b"a", |case, _| {
         case.same_bytes(|| "bytes".to_string(), b"ab", b"aa");
     });
-    assert_eq!((report.passed(), report.failed()), (1, 2));
+    report.case("call that panics", "test", b"a", |_, _| {
+        panic!("on purpose")
+    });
+    assert_eq!((report.passed(), report.failed()), (1, 3));
 }
 
 /// A whole run must see every refusal number.

@@ -1,9 +1,9 @@
 //! The plain C answers as the reference does, so that measuring against it is
 //! fair.
 
-use cgx_harness::generate::{self, Rng};
-use cgx_harness::plain_c;
-use cgx_harness::reference::{self, Place, Refusal, Step, Verdict};
+use cgx_harness::generate::{self, Call, Rng};
+use cgx_harness::reference::{self, Answer, Place, Refusal, Step, StoredReal, Verdict, View};
+use cgx_harness::{drive, plain_c, words};
 
 #[test]
 fn plain_c_checks_walks_and_normalises_as_the_reference_does() {
@@ -36,41 +36,64 @@ fn same_answers(file: &[u8]) {
     assert!(one == other, "normal forms differ");
 }
 
-/// Kind, offsets and run of each record, and how the walk ends.
-type Walk = (Vec<(u8, u8, [usize; 5])>, Result<(), Refusal>);
+/// Each view, and how the walk ends.
+type Walk = (Vec<View>, Result<(), Refusal>);
 
 fn walk_by_c(file: &[u8]) -> Walk {
-    let mut records = Vec::new();
-    let end = plain_c::walk(file, |view| {
-        let offsets = [
-            view.at,
-            view.cell,
-            view.layer,
-            view.run_first,
-            view.run_count,
-        ];
-        records.push((view.kind, view.flags, offsets));
-    });
-    (records, end)
+    let mut views = Vec::new();
+    let real = |word: u64| StoredReal::from_bytes(word.to_be_bytes()).answer();
+    let end = plain_c::walk(file, |view| views.push(words::view(view, real)));
+    (views, end)
 }
 
 fn walk(file: &[u8]) -> Walk {
-    let mut records = Vec::new();
+    let mut views = Vec::new();
     if let Err(refusal) = reference::start(file) {
-        return (records, Err(refusal));
+        return (views, Err(refusal));
     }
     let mut place = Place::START;
     loop {
         match reference::step(file, place) {
             Step::Record(view, next) => {
-                let [cell, layer, first] =
-                    [view.cell, view.layer, view.run_first].map(|at| at.unwrap_or(usize::MAX));
-                let offsets = [view.offset, cell, layer, first, view.run_count];
-                records.push((view.kind as u8, view.flags, offsets));
+                views.push(view);
                 place = next;
             }
-            Step::Done => return (records, Ok(())),
-            Step::Refused { number, at, .. } => return (records, Err(Refusal { number, at })),
+            Step::Done => return (views, Ok(())),
+            Step::Refused { number, at, .. } => return (views, Err(Refusal { number, at })),
+        }
+    }
+}
+
+/// The two calls that are measured, in rooms around what they need.
+#[test]
+fn plain_c_writes_as_the_reference_does() {
+    let mut rng = Rng::new(6);
+    for _ in 0..2_000 {
+        for call in generate::any_calls(&mut rng) {
+            let room = 200 + call.size();
+            let place = generate::passing_place(&mut rng, room, &[60, 200]);
+            let (mut one, mut other) = (vec![7; room], vec![7; room]);
+            let mut writer = plain_c::writer(place);
+            let by_c = match &call {
+                Call::Boxes { sides } => plain_c::boxes(&mut one, &mut writer, sides),
+                Call::Text {
+                    flags,
+                    place: at,
+                    width,
+                    label,
+                } => plain_c::text(&mut one, &mut writer, *flags, *at, *width, label),
+                _ => continue,
+            };
+            let answer = match by_c {
+                Ok(()) => Answer::Taken(words::place(writer)),
+                Err(Refusal { number, at }) => Answer::Refused {
+                    number,
+                    at,
+                    place: words::place(writer),
+                },
+            };
+            assert_eq!(answer, drive::make(&mut other, place, &call));
+            assert!(one == other, "what is written differs");
         }
     }
 }

@@ -2,7 +2,7 @@
 #ifndef CALLS_H
 #define CALLS_H
 
-#include "test.h"
+#include "asked.h"
 
 typedef enum {
     A_LIBRARY,
@@ -24,15 +24,15 @@ typedef enum {
 
 typedef struct {
     which_call which;
-    uint8_t flags;           /* or the version, or the end style */
-    cgx_eight first, second; /* munit and uunit, or angle and magnif */
+    uint8_t flags;          /* or the version, or the end style */
+    cgx_real first, second; /* munit and uunit */
     cgx_date created, modified;
     int32_t number; /* or the width */
-    int16_t layer, datatype;
-    cgx_point at;
-    cgx_grid grid;
-    cgx_sides sides;
-    const int32_t *longs;
+    cgx_layer_id layer;
+    cgx_point point;
+    cgx_placement placement;
+    cgx_box sides;
+    const void *items; /* boxes or points */
     size_t count;
     const char *text;
     size_t len;
@@ -48,29 +48,31 @@ typedef enum {
     ENDED       /* ENDLIB, after LAYER */
 } where;
 
-cgx_place place_in(where w);
+cgx_writer writer_in(where w);
 
-/* Makes the call, its text and its numbers in buffers of exact size. */
-cgx_answer make_call(uint8_t *buf, size_t room, cgx_place place, const call *c);
+/* Makes the call, each struct, text and list that it is given in memory of exact size. Where it is refused, every byte of the
+   buffer and of the writer must be as it was, and always every byte of what it is given. */
+told make_call(blob buf, cgx_writer *writer, const call *c);
 
 /* The call is taken and appends these bytes, with exact room and with more; one byte less is 14. No other byte of the
    buffer changes. */
-void expect_taken(const char *name, cgx_place place, const call *c, blob bytes);
+void expect_taken(const char *name, cgx_writer writer, const call *c, blob bytes);
 
-/* The call is refused with this number, whether there is room or none, names the offset `at` where the number is 6 to 12
-   and else none, hands back its place and changes no byte. */
-void expect_refused(const char *name, cgx_place place, const call *c, uint8_t number, size_t at);
+/* The call is refused with this number, whether there is room or none, and names the offset `at` where the number is 6 to
+   12, and else none. */
+void expect_refused(const char *name, cgx_writer writer, const call *c, uint32_t number, uint64_t at);
 
 /* The same in a buffer of so many bytes. */
-void expect_refused_in(const char *name, size_t room, cgx_place place, const call *c, uint8_t number, size_t at);
+void expect_refused_in(const char *name, size_t room, cgx_writer writer, const call *c, uint32_t number, uint64_t at);
 
-/* The call is refused with 16 at each forged place. */
+/* The call is refused with 16 by each forged writer. */
 void expect_forged_refused(const char *name, const call *c);
 
-#define ONE {{0x41, 0x10, 0, 0, 0, 0, 0, 0}}
-#define DAY {2025, 2, 6, 14, 9, 45}
-#define NEXT_DAY {2025, 2, 7, 23, 59, 59}
+#define ONE {0x4110000000000000}
+/* What is in `unused` is not looked at. */
+#define DAY {2025, 2, 6, 14, 9, 45, 0}
+#define NEXT_DAY {2025, 2, 7, 23, 59, 59, 255}
 #define TEXT_OF(s) .text = (s), .len = sizeof(s) - 1
-#define LONGS_OF(a) .longs = (a), .count = sizeof(a) / sizeof(a)[0]
+#define ITEMS_OF(a) .items = (a), .count = sizeof(a) / sizeof(a)[0]
 
 #endif

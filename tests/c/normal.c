@@ -1,29 +1,30 @@
 /* The normal-form maker. Its refusals of bad files are tried in reading.c, file by file. */
-#include "test.h"
+#include "asked.h"
 
 #include <string.h>
 
 /* Makes the normal form into a buffer of so many bytes: the expected one, and the bytes after it stay; or 14, and all
-   stay. */
+   stay, the length too. */
 static void make(const char *name, blob file, blob normal, size_t room) {
-    blob out = {lend(room), room}, kept;
-    cgx_normal_answer n;
+    blob out = {lend(room), room};
+    uint64_t length = UNNAMED;
+    told t;
     size_t i;
     for (i = 0; i < room; i++) out.bytes[i] = (uint8_t)(i * 7 + 1);
-    kept = copy_of(out.bytes, room);
-    n = cgx_normal_form(file.bytes, file.size, out.bytes, out.size);
+    t = ask_normal_form(file, out, &length);
     if (room < normal.size) {
-        expect(!n.made && n.number == CGX_REFUSED_ROOM && !n.at.present && same_bytes(out, kept), name, "no room");
+        expect(t.number == CGX_REFUSED_ROOM, name, "no room");
     } else {
-        memcpy(kept.bytes, normal.bytes, normal.size);
-        expect(n.made && n.length == normal.size && same_bytes(out, kept), name, "normal form");
+        expect(t.number == CGX_OK && length == normal.size && memcmp(out.bytes, normal.bytes, normal.size) == 0, name,
+            "normal form");
     }
-    drop(kept);
     drop(out);
 }
 
 static void normal(const char *name, const char *digits, const char *normal_digits) {
     blob file = hex(digits), form = hex(normal_digits);
+    uint64_t length = UNNAMED;
+    expect(ask_normal_length(file, &length).number == CGX_OK && length == form.size, name, "its length");
     make(name, file, form, form.size + 9);
     make(name, file, form, form.size);
     make(name, file, form, form.size - 1);

@@ -1,15 +1,28 @@
 /* The checker, the walk, lists, texts, layer names and extents. */
-#include "test.h"
+#include "asked.h"
 
 #include <string.h>
+
+/* Bytes that no answer has. */
+#define UNUSED(type) static type unused_##type(void) { \
+    type t; \
+    memset(&t, FILL, sizeof t); \
+    return t; \
+}
+UNUSED(cgx_place)
+UNUSED(cgx_view)
+UNUSED(cgx_box)
+UNUSED(cgx_point)
+UNUSED(cgx_text)
+UNUSED(uint64_t)
 
 /* ---- refusals: each reader gives the same number at the same offset */
 
 typedef struct {
     const char *name;
     const char *digits;
-    uint8_t number;
-    size_t at;
+    uint32_t number;
+    uint64_t at;
 } refused_file;
 
 #define CELL CGX LIBRARY_M STRUCT_A /* 64 bytes */
@@ -74,51 +87,31 @@ static const refused_file refused_files[] = {
     {"a byte after ENDLIB", SMALL "00", 13, 96},
 };
 
-/* A step with a place and a view that end at pages that may not be touched. Where it gives no record, every byte of both
-   must stay. */
-static cgx_step_answer step_from(blob file, cgx_place *place, cgx_view *view) {
-    blob lent_place = copy_of(place, sizeof *place), lent_view = copy_of(view, sizeof *view);
-    cgx_step_answer step =
-        cgx_step(file.bytes, file.size, (cgx_place *)lent_place.bytes, (cgx_view *)lent_view.bytes);
-    if (step.status != CGX_STEP_RECORD
-        && (memcmp(lent_place.bytes, place, sizeof *place) != 0 || memcmp(lent_view.bytes, view, sizeof *view) != 0)) {
-        expect(false, "walk", "place and view stay where there is no record");
-    }
-    memcpy(place, lent_place.bytes, sizeof *place);
-    memcpy(view, lent_view.bytes, sizeof *view);
-    drop(lent_view);
-    drop(lent_place);
-    return step;
+/* Walks a file to its end: the last answer, of the start where that is refused. */
+static told walked(blob file, size_t *records) {
+    cgx_place place = unused_cgx_place();
+    cgx_view view = unused_cgx_view();
+    told t = ask_start(file, &place);
+    *records = 0;
+    if (t.number != CGX_OK) return t;
+    while ((t = ask_step(file, &place, &view)).number == CGX_OK) ++*records;
+    return t;
 }
 
-/* Walks a file to its end: the status of the last step, or of a start that is not ready. */
-static cgx_step_answer walked(blob file, size_t *records) {
-    cgx_start_answer begun = cgx_start(file.bytes, file.size);
-    cgx_step_answer step = {CGX_STEP_REFUSED, begun.number, begun.at};
-    cgx_place place = begun.place;
-    cgx_view view;
-    *records = 0;
-    if (!begun.ready) return step;
-    memset(&view, 0xa5, sizeof view);
-    while ((step = step_from(file, &place, &view)).status == CGX_STEP_RECORD) ++*records;
-    return step;
+static bool refuses(told t, uint32_t number, uint64_t at) {
+    return t.number == number && t.at == at;
 }
 
 static void refuse(const refused_file *r) {
-    blob file = hex(r->digits), out = copy_of("untouched", 9), before = copy_of("untouched", 9);
+    blob file = hex(r->digits), out = copy_of("untouched", 9);
     size_t records;
-    cgx_verdict verdict = cgx_check(file.bytes, file.size);
-    cgx_step_answer last = walked(file, &records);
-    cgx_normal_answer normal = cgx_normal_form(file.bytes, file.size, out.bytes, out.size);
-    cgx_extent_answer extent = cgx_extent(file.bytes, file.size, 0);
-    expect(!verdict.accepted && verdict.number == r->number && verdict.at == r->at, r->name, "check");
-    expect(last.status == CGX_STEP_REFUSED && last.number == r->number && last.at.present && last.at.at == r->at,
-        r->name, "walk");
-    expect(!normal.made && normal.number == r->number && normal.at.present && normal.at.at == r->at
-            && same_bytes(out, before), r->name, "normal form");
-    expect(extent.status == CGX_EXTENT_REFUSED && extent.number == r->number && extent.at.present
-            && extent.at.at == r->at, r->name, "extent");
-    drop(before);
+    uint64_t length = unused_uint64_t();
+    cgx_box extent = unused_cgx_box();
+    expect(refuses(ask_check(file), r->number, r->at), r->name, "check");
+    expect(refuses(walked(file, &records), r->number, r->at), r->name, "walk");
+    expect(refuses(ask_normal_length(file, &length), r->number, r->at), r->name, "normal length");
+    expect(refuses(ask_normal_form(file, out, &length), r->number, r->at), r->name, "normal form");
+    expect(refuses(ask_extent(file, 0, &extent), r->number, r->at), r->name, "extent");
     drop(out);
     drop(file);
 }
@@ -146,9 +139,9 @@ static const accepted_file accepted_files[] = {
 static void accept(const accepted_file *a) {
     blob file = hex(a->digits);
     size_t records;
-    cgx_step_answer last = walked(file, &records);
-    expect(cgx_check(file.bytes, file.size).accepted, a->name, "check");
-    expect(last.status == CGX_STEP_DONE && records == a->records, a->name, "walk");
+    told last = walked(file, &records);
+    expect(ask_check(file).number == CGX_OK, a->name, "check");
+    expect(last.number == CGX_DONE && records == a->records, a->name, "walk");
     drop(file);
 }
 
@@ -164,324 +157,375 @@ static void most_boxes(void) {
     file.bytes[start.size + 2] = CGX_BOX;
     memcpy(file.bytes + start.size + 65524, end.bytes, end.size);
     for (i = 0; i < CGX_MAX_BOXES; i++) put_long(file.bytes + start.size + 4 + 16 * i + 8, (int32_t)i);
-    expect(cgx_check(file.bytes, file.size).accepted, "BOX size 65,524", "check");
-    expect(walked(file, &records).status == CGX_STEP_DONE && records == 5, "BOX size 65,524", "walk");
+    expect(ask_check(file).number == CGX_OK, "BOX size 65,524", "check");
+    expect(walked(file, &records).number == CGX_DONE && records == 5, "BOX size 65,524", "walk");
     drop(file);
     drop(end);
     drop(start);
 }
 
-/* ---- views */
+/* ---- views: every member, and the bytes after the kind's own fields, which stay */
 
 typedef struct {
-    uint8_t kind, flags;
-    size_t at, cell, layer, first, count; /* 0 is none */
+    uint32_t kind, flags;
+    uint64_t at, cell, layer;
+    cgx_list properties;
 } expected_view;
 
 static const expected_view expected_views[] = {
-    {CGX_LIBRARY, 7, 4, 0, 0, 0, 0},
-    {CGX_STRUCT, 0xff, 42, 42, 0, 0, 0},
-    {CGX_CPRPTY, 1, 64, 42, 0, 0, 0},
-    {CGX_LAYER, 2, 76, 42, 76, 0, 0},
-    {CGX_PROPERTY, 3, 88, 42, 76, 0, 0},
-    {CGX_PROPERTY, 0, 104, 42, 76, 0, 0},
-    {CGX_BOX, 0x55, 114, 42, 76, 88, 2},
-    {CGX_POLY, 0, 150, 42, 76, 0, 0},
-    {CGX_WIRE, 2, 186, 42, 76, 0, 0},
-    {CGX_TEXT, 0xf5, 210, 42, 76, 0, 0},
-    {CGX_SREF, 0, 230, 42, 76, 0, 0},
-    {CGX_SREF, 15, 244, 42, 76, 0, 0},
-    {CGX_STRUCT, 0, 298, 298, 0, 0, 0},
-    {CGX_LAYER, 0, 320, 298, 320, 0, 0},
-    {CGX_LAYER, 0, 328, 298, 328, 0, 0},
-    {CGX_ENDLIB, 0, 338, 298, 328, 0, 0},
+    {CGX_LIBRARY, 7, 4, 0, 0, {0, 0}},
+    {CGX_STRUCT, 0xff, 42, 42, 0, {0, 0}},
+    {CGX_CPRPTY, 1, 64, 42, 0, {0, 0}},
+    {CGX_LAYER, 2, 76, 42, 76, {0, 0}},
+    {CGX_PROPERTY, 3, 88, 42, 76, {0, 0}},
+    {CGX_PROPERTY, 0, 104, 42, 76, {0, 0}},
+    {CGX_BOX, 0x55, 114, 42, 76, {88, 2}},
+    {CGX_POLY, 0, 150, 42, 76, {0, 0}},
+    {CGX_WIRE, 2, 186, 42, 76, {0, 0}},
+    {CGX_TEXT, 0xf5, 210, 42, 76, {0, 0}},
+    {CGX_SREF, 0, 230, 42, 76, {0, 0}},
+    {CGX_SREF, 15, 244, 42, 76, {0, 0}},
+    {CGX_STRUCT, 0, 298, 298, 0, {0, 0}},
+    {CGX_LAYER, 0, 320, 298, 320, {0, 0}},
+    {CGX_LAYER, 0, 328, 298, 328, {0, 0}},
+    {CGX_ENDLIB, 0, 338, 298, 328, {0, 0}},
 };
 enum { VIEWS = sizeof expected_views / sizeof expected_views[0] };
 
-static bool is_offset(cgx_offset o, size_t at) {
-    return at == 0 ? !o.present : o.present && o.at == at;
+static const cgx_date created = {2025, 2, 6, 14, 9, 45, 0}, modified = {2025, 2, 6, 14, 9, 51, 0};
+
+static cgx_text text(uint64_t at, uint64_t len) {
+    cgx_text t = {at, len};
+    return t;
 }
 
-static bool is_view(const cgx_view *v, const expected_view *e) {
-    bool run = e->count == 0 ? !v->run.present
-                             : v->run.present && v->run.first == e->first && v->run.count == e->count;
-    return v->kind == e->kind && v->flags == e->flags && v->at == e->at && is_offset(v->cell, e->cell)
-        && is_offset(v->layer, e->layer) && run;
+static cgx_list list(uint64_t first, uint64_t count) {
+    cgx_list l = {first, count};
+    return l;
 }
 
-static bool is_text(blob file, cgx_text text, const char *bytes) {
-    const uint8_t *found = cgx_text_bytes(file.bytes, file.size, text);
-    return found != NULL && text.len == strlen(bytes) && memcmp(found, bytes, text.len) == 0;
+static void property(cgx_fields *f, int32_t number, cgx_text value) {
+    f->property.number = number;
+    f->property.unused = 0;
+    f->property.value = value;
 }
 
-static bool is_date(cgx_date d, uint8_t second) {
-    return d.year == 2025 && d.month == 2 && d.day == 6 && d.hour == 14 && d.minute == 9 && d.second == second;
+static void layer_fields(cgx_fields *f, int16_t number, int16_t datatype, uint32_t named, cgx_text name) {
+    f->layer.id.number = number;
+    f->layer.id.datatype = datatype;
+    f->layer.named = named;
+    f->layer.name = name;
 }
 
-static bool is_point(blob file, cgx_list list, size_t i, int32_t x, int32_t y) {
-    cgx_point_answer p = cgx_point_at(file.bytes, file.size, list, i);
-    return p.found && p.point.x == x && p.point.y == y;
+static void structure(cgx_fields *f, cgx_text name) {
+    f->structure.created = created;
+    f->structure.modified = modified;
+    f->structure.name = name;
 }
 
-static bool is_box(blob file, cgx_list list, size_t i, int32_t left, int32_t bottom, int32_t right, int32_t top) {
-    cgx_box_answer b = cgx_box_at(file.bytes, file.size, list, i);
-    return b.found && b.left == left && b.bottom == bottom && b.right == right && b.top == top;
-}
-
-static void fields(blob file, const cgx_view *v) {
-    const cgx_fields *f = &v->fields;
-    const cgx_real *munit = &f->library.munit, *uunit = &f->library.uunit, *angle = &f->sref.angle, *magnif = &f->sref.magnif;
-    const cgx_array *array = &f->sref.array;
-    const char *name = "fields";
-    switch (v->at) {
+/* The fields of the record at an offset of `every_kind`. */
+static void expected_fields(uint64_t at, cgx_fields *f) {
+    const cgx_placement plain = {.point = {1, 2}}, full = {{3, 4}, {0x8000000000000000}, {0x4201000000000000}, 2, 3,
+        {100, 0}, {0, 200}};
+    switch (at) {
     case 4:
-        expect(munit->present && munit->exact && munit->value == 0x4189374bc6a7f0p-64, name, "munit");
-        expect(uunit->present && !uunit->exact && !uunit->negative && uunit->e == 0x41 && uunit->m == 0xffffffffffffff,
-            name, "uunit, inexact");
-        expect(is_date(f->library.created, 45) && is_date(f->library.modified, 51), name, "dates of LIBRARY");
-        expect(is_text(file, f->library.name, "m"), name, "name of LIBRARY");
+        f->library.munit.word = 0x3e4189374bc6a7f0;
+        f->library.uunit.word = 0x41ffffffffffffff;
+        f->library.created = created;
+        f->library.modified = modified;
+        f->library.name = text(40, 1);
         break;
-    case 42:
-        expect(is_date(f->structure.created, 45) && is_date(f->structure.modified, 51), name, "dates of STRUCT");
-        expect(is_text(file, f->structure.name, "a"), name, "name of STRUCT");
-        break;
-    case 64: expect(f->property.number == -1 && is_text(file, f->property.value, "cp"), name, "CPRPTY"); break;
-    case 76:
-        expect(f->layer.number.number == 5 && f->layer.datatype.number == -3, name, "numbers of LAYER");
-        expect(f->layer.named && is_text(file, f->layer.name, "m1"), name, "name of LAYER");
-        break;
-    case 88: expect(f->property.number == 127 && is_text(file, f->property.value, "p"), name, "PROPERTY"); break;
-    case 104:
-        expect(f->property.number == INT32_MIN && is_text(file, f->property.value, ""), name, "lowest number");
-        break;
-    case 114:
-        expect(f->box.boxes.count == 2 && is_box(file, f->box.boxes, 0, -80, -57, 82, 58), name, "first box");
-        expect(is_box(file, f->box.boxes, 1, 0, 0, 0, 0), name, "second box");
-        expect(!cgx_box_at(file.bytes, file.size, f->box.boxes, 2).found, name, "no third box");
-        break;
-    case 150:
-        expect(f->poly.points.count == 4 && is_point(file, f->poly.points, 2, 10, 20), name, "points of POLY");
-        expect(!cgx_point_at(file.bytes, file.size, f->poly.points, 4).found, name, "no fifth point");
-        break;
+    case 42: structure(f, text(62, 1)); break;
+    case 64: property(f, -1, text(72, 2)); break;
+    case 76: layer_fields(f, 5, -3, 1, text(84, 2)); break;
+    case 88: property(f, 127, text(96, 1)); break;
+    case 104: property(f, INT32_MIN, text(112, 0)); break;
+    case 114: f->box.boxes = list(118, 2); break;
+    case 150: f->poly.points = list(154, 4); break;
     case 186:
-        expect(f->wire.width == 10 && f->wire.points.count == 2, name, "WIRE");
-        expect(is_point(file, f->wire.points, 0, -1, INT32_MIN) && is_point(file, f->wire.points, 1, INT32_MAX, 1), name,
-            "points of WIRE");
+        f->wire.width = 10;
+        f->wire.unused = 0;
+        f->wire.points = list(194, 2);
         break;
     case 210:
-        expect(f->text.at.x == -80 && f->text.at.y == INT32_MIN && f->text.width == 7, name, "TEXT");
-        expect(is_text(file, f->text.label, "ab\xce"), name, "label cut through a letter");
+        f->text.point.x = -80;
+        f->text.point.y = INT32_MIN;
+        f->text.width = 7;
+        f->text.unused = 0;
+        f->text.label = text(226, 3);
         break;
     case 230:
-        expect(f->sref.at.x == 1 && f->sref.at.y == 2 && is_text(file, f->sref.name, "b"), name, "SREF");
-        expect(!angle->present && !magnif->present && !array->present, name, "fields that are absent");
+        f->sref.placement = plain;
+        f->sref.name = text(242, 1);
         break;
     case 244:
-        expect(angle->present && angle->exact && angle->value == 0.0, name, "angle");
-        expect(magnif->present && magnif->exact && magnif->value == 1.0, name, "magnif");
-        expect(array->present && array->cols == 2 && array->rows == 3 && array->across.x == 100 && array->across.y == 0
-                && array->up.x == 0 && array->up.y == 200, name, "array");
+        f->sref.placement = full;
+        f->sref.name = text(296, 0);
         break;
-    case 298: expect(is_text(file, f->structure.name, ""), name, "empty name of STRUCT"); break;
-    case 320:
-        expect(!f->layer.named && f->layer.number.number == 1 && f->layer.datatype.number == 0, name,
-            "LAYER without a name");
-        break;
-    case 328: expect(f->layer.named && is_text(file, f->layer.name, ""), name, "LAYER with an empty name"); break;
+    case 298: structure(f, text(318, 0)); break;
+    case 320: layer_fields(f, 1, 0, 0, text(0, 0)); break;
+    case 328: layer_fields(f, 1, 0, 1, text(336, 0)); break;
     default: break;
     }
 }
 
-/* How many bytes of a view a step writes: all that comes after them stays. */
-static size_t written(const cgx_view *v) {
-    const cgx_fields *f = &v->fields;
-    const size_t fields = offsetof(cgx_view, fields);
-    switch (v->kind) {
-    case CGX_LIBRARY: return fields + sizeof f->library;
-    case CGX_STRUCT: return fields + sizeof f->structure;
-    case CGX_CPRPTY:
-    case CGX_PROPERTY: return fields + sizeof f->property;
-    case CGX_LAYER: return fields + (f->layer.named ? sizeof f->layer : 8);
-    case CGX_BOX: return fields + sizeof f->box;
-    case CGX_POLY: return fields + sizeof f->poly;
-    case CGX_WIRE: return fields + sizeof f->wire;
-    case CGX_TEXT: return fields + sizeof f->text;
-    case CGX_SREF: return fields + sizeof f->sref;
-    default: return fields;
-    }
+static cgx_view expected(const expected_view *e) {
+    cgx_view v = unused_cgx_view();
+    v.kind = e->kind;
+    v.flags = e->flags;
+    v.at = e->at;
+    v.cell = e->cell;
+    v.layer = e->layer;
+    v.properties = e->properties;
+    expected_fields(e->at, &v.fields);
+    return v;
 }
 
-static bool rest_stays(const cgx_view *v) {
-    size_t i;
-    for (i = written(v); i < sizeof *v; i++) {
-        if (((const uint8_t *)v)[i] != 0) return false;
+static bool is_view(const cgx_view *v, const expected_view *e) {
+    cgx_view whole = expected(e);
+    return SAME(v, &whole);
+}
+
+static bool is_place(const cgx_place *p, uint64_t at, uint64_t cell, uint64_t layer, cgx_list properties, uint64_t seen) {
+    cgx_place whole;
+    whole.at = at;
+    whole.cell = cell;
+    whole.layer = layer;
+    whole.properties = properties;
+    whole.seen = seen;
+    return SAME(p, &whole);
+}
+
+static bool is_text(blob file, cgx_text t, const char *bytes) {
+    const uint8_t *found = cgx_text_bytes(file.bytes, file.size, &t);
+    return found != NULL && t.len == strlen(bytes) && memcmp(found, bytes, t.len) == 0;
+}
+
+static bool is_point(blob file, cgx_list points, uint64_t i, int32_t x, int32_t y) {
+    cgx_point p = unused_cgx_point();
+    return ask_point(file, points, i, &p) == CGX_OK && p.x == x && p.y == y;
+}
+
+static bool is_box(blob file, cgx_list boxes, uint64_t i, cgx_box sides) {
+    cgx_box b = unused_cgx_box();
+    return ask_box(file, boxes, i, &b) == CGX_OK && SAME(&b, &sides);
+}
+
+static bool no_point(blob file, cgx_list points, uint64_t i) {
+    cgx_point p = unused_cgx_point();
+    return ask_point(file, points, i, &p) == CGX_NOTHING;
+}
+
+static bool no_box(blob file, cgx_list boxes, uint64_t i) {
+    cgx_box b = unused_cgx_box();
+    return ask_box(file, boxes, i, &b) == CGX_NOTHING;
+}
+
+/* What the texts and lists of a view lead to. */
+static void led_to(blob file, const cgx_view *v) {
+    const cgx_fields *f = &v->fields;
+    const cgx_box first = {-80, -57, 82, 58}, second = {0, 0, 0, 0};
+    const char *name = "fields";
+    switch (v->at) {
+    case 4: expect(is_text(file, f->library.name, "m"), name, "name of LIBRARY"); break;
+    case 42: expect(is_text(file, f->structure.name, "a"), name, "name of STRUCT"); break;
+    case 64: expect(is_text(file, f->property.value, "cp"), name, "CPRPTY"); break;
+    case 76: expect(is_text(file, f->layer.name, "m1"), name, "name of LAYER"); break;
+    case 88: expect(is_text(file, f->property.value, "p"), name, "PROPERTY"); break;
+    case 104: expect(is_text(file, f->property.value, ""), name, "an empty value"); break;
+    case 114:
+        expect(is_box(file, f->box.boxes, 0, first), name, "first box");
+        expect(is_box(file, f->box.boxes, 1, second), name, "second box");
+        expect(no_box(file, f->box.boxes, 2), name, "no third box");
+        break;
+    case 150:
+        expect(is_point(file, f->poly.points, 2, 10, 20), name, "points of POLY");
+        expect(no_point(file, f->poly.points, 4), name, "no fifth point");
+        break;
+    case 186:
+        expect(is_point(file, f->wire.points, 0, -1, INT32_MIN) && is_point(file, f->wire.points, 1, INT32_MAX, 1), name,
+            "points of WIRE");
+        expect(no_point(file, f->wire.points, 2), name, "no third point");
+        break;
+    case 210: expect(is_text(file, f->text.label, "ab\xce"), name, "label cut through a letter"); break;
+    case 230: expect(is_text(file, f->sref.name, "b"), name, "name of SREF"); break;
+    default: break;
     }
-    return true;
 }
 
 static void views(void) {
     blob file = hex(every_kind);
-    cgx_place place = cgx_start(file.bytes, file.size).place;
-    cgx_view last;
+    cgx_place place = unused_cgx_place();
+    cgx_view view = unused_cgx_view();
     size_t i;
+    expect(ask_start(file, &place).number == CGX_OK && is_place(&place, 4, 0, 0, list(0, 0), 0), "view", "start");
     for (i = 0; i < VIEWS; i++) {
-        cgx_view view;
-        cgx_step_answer step;
-        memset(&view, 0, sizeof view);
-        step = step_from(file, &place, &view);
-        expect(step.status == CGX_STEP_RECORD && is_view(&view, &expected_views[i]), "view", "of every kind");
-        if (step.status != CGX_STEP_RECORD) break;
-        fields(file, &view);
-        expect(rest_stays(&view), "view", "has no bytes of another kind's fields");
+        view = unused_cgx_view();
+        if (ask_step(file, &place, &view).number != CGX_OK) break;
+        expect(is_view(&view, &expected_views[i]), "view", "of every kind");
+        led_to(file, &view);
+        if (view.at == 42) {
+            expect(is_place(&place, 64, 42, 0, list(0, 0), CGX_SEEN_LIBRARY | CGX_SEEN_FRESH), "place", "after STRUCT");
+        }
+        if (view.at == 104) expect(is_place(&place, 114, 42, 76, list(88, 2), CGX_SEEN_LIBRARY), "place", "in a run");
+        if (view.at == 114) expect(is_place(&place, 150, 42, 76, list(0, 0), CGX_SEEN_LIBRARY), "place", "after a run");
     }
-    memset(&last, 0xa5, sizeof last);
-    expect(step_from(file, &place, &last).status == CGX_STEP_DONE, "view", "done");
+    expect(i == VIEWS && ask_step(file, &place, &view).number == CGX_DONE, "view", "done");
+    expect(is_place(&place, 342, 298, 328, list(0, 0), CGX_SEEN_LIBRARY | CGX_SEEN_ENDLIB), "place", "at the end");
     drop(file);
 }
 
 /* From the view of the BOX back to its STRUCT, its LAYER and its two properties, over the unknown record between them. */
 static void read_again(void) {
     blob file = hex(every_kind);
-    cgx_place place = cgx_start(file.bytes, file.size).place, back;
-    cgx_view box, view;
-    do {
-        if (cgx_step(file.bytes, file.size, &place, &box).status != CGX_STEP_RECORD) break;
-    } while (box.kind != CGX_BOX);
-    back = cgx_place_before(&box, box.cell.at);
-    expect(cgx_step(file.bytes, file.size, &back, &view).status == CGX_STEP_RECORD && is_view(&view, &expected_views[1]),
-        "read again", "STRUCT");
-    back = cgx_place_before(&box, box.layer.at);
-    expect(cgx_step(file.bytes, file.size, &back, &view).status == CGX_STEP_RECORD && is_view(&view, &expected_views[3]),
-        "read again", "LAYER");
-    back = cgx_place_before(&box, box.run.first);
-    expect(cgx_step(file.bytes, file.size, &back, &view).status == CGX_STEP_RECORD && is_view(&view, &expected_views[4]),
-        "read again", "first PROPERTY");
-    expect(cgx_step(file.bytes, file.size, &back, &view).status == CGX_STEP_RECORD && is_view(&view, &expected_views[5]),
-        "read again", "second PROPERTY");
-    drop(file);
-}
-
-/* 004's second real, as uunit. */
-static void nano(void) {
-    blob file = hex(SMALL);
-    cgx_place place = cgx_start(file.bytes, file.size).place;
-    cgx_view view;
-    expect(cgx_step(file.bytes, file.size, &place, &view).status == CGX_STEP_RECORD && view.fields.library.uunit.exact
-            && view.fields.library.uunit.value == 0x44b82fa09b5a54p-84, "real", "39 44 b8 ..");
+    cgx_place place = unused_cgx_place(), back;
+    cgx_view box = unused_cgx_view(), view = unused_cgx_view();
+    ask_start(file, &place);
+    while (ask_step(file, &place, &box).number == CGX_OK && box.kind != CGX_BOX) {
+    }
+    cgx_place_before(&box, box.cell, &back);
+    expect(ask_step(file, &back, &view).number == CGX_OK && is_view(&view, &expected_views[1]), "read again", "STRUCT");
+    view = unused_cgx_view();
+    cgx_place_before(&box, box.layer, &back);
+    expect(ask_step(file, &back, &view).number == CGX_OK && is_view(&view, &expected_views[3]), "read again", "LAYER");
+    cgx_place_before(&box, box.properties.first, &back);
+    view = unused_cgx_view();
+    expect(ask_step(file, &back, &view).number == CGX_OK && is_view(&view, &expected_views[4]), "read again",
+        "first PROPERTY");
+    view = unused_cgx_view();
+    expect(ask_step(file, &back, &view).number == CGX_OK && is_view(&view, &expected_views[5]), "read again",
+        "second PROPERTY");
     drop(file);
 }
 
 /* ---- forged places: each clause of 16, and what is no forgery */
 
 static void refuse_place(blob file, cgx_place place) {
-    cgx_view view;
-    cgx_step_answer step;
-    memset(&view, 0xa5, sizeof view);
-    step = step_from(file, &place, &view);
-    expect(step.status == CGX_STEP_REFUSED && step.number == CGX_REFUSED_NO_SUCH && !step.at.present, "forged place",
-        "is 16");
+    cgx_view view = unused_cgx_view();
+    expect(ask_step(file, &place, &view).number == CGX_REFUSED_NO_SUCH, "forged place", "is 16");
 }
 
 static void forged(void) {
     blob file = hex(SMALL), tiny = copy_of("cgx", 3);
-    cgx_place start = cgx_start(file.bytes, file.size).place, places[FORGED], equal = start;
-    cgx_view view;
+    cgx_place start = unused_cgx_place(), places[FORGED], equal, marked, none;
+    cgx_view view = unused_cgx_view();
     size_t i;
+    ask_start(file, &start);
     forged_places(file.size, places);
     for (i = 0; i < FORGED; i++) refuse_place(file, places[i]);
     refuse_place(tiny, start);
 
-    equal.at = equal.cell.at = equal.layer.at = 92;
-    equal.library = equal.cell.present = equal.layer.present = true;
-    expect(cgx_step(file.bytes, file.size, &equal, &view).status == CGX_STEP_RECORD && view.kind == CGX_ENDLIB
-            && view.cell.at == 92, "forged place", "equal is no forgery");
+    equal = start;
+    equal.at = equal.cell = equal.layer = 92;
+    equal.seen = CGX_SEEN_LIBRARY;
+    expect(ask_step(file, &equal, &view).number == CGX_OK && view.kind == CGX_ENDLIB && view.cell == 92, "forged place",
+        "equal is no forgery");
     equal.at = file.size;
-    equal.ended = true;
-    expect(cgx_step(file.bytes, file.size, &equal, &view).status == CGX_STEP_DONE, "forged place",
-        "the end of the file is none");
+    equal.seen = CGX_SEEN_LIBRARY | CGX_SEEN_ENDLIB;
+    expect(ask_step(file, &equal, &view).number == CGX_DONE, "forged place", "the end of the file is none");
+
+    marked = start;
+    marked.seen = ~(uint64_t)(CGX_SEEN_LIBRARY | CGX_SEEN_FRESH | CGX_SEEN_ENDLIB);
+    expect(ask_step(file, &marked, &view).number == CGX_OK && is_place(&marked, 42, 0, 0, list(0, 0), CGX_SEEN_LIBRARY),
+        "place", "higher bits of what is seen are not looked at");
+    none = start;
+    none.properties.first = UINT64_MAX;
+    expect(ask_step(file, &none, &view).number == CGX_OK && is_place(&none, 42, 0, 0, list(0, 0), CGX_SEEN_LIBRARY),
+        "place", "of no properties the first is not looked at");
     drop(tiny);
     drop(file);
 }
 
-/* ---- made-up places: offset 0 and a run of none are taken for none */
+/* ---- made-up places: 0 is none */
 
 /* At the BOX of a file, with `change` to a place that is otherwise true. */
-static cgx_step_answer from_box(blob file, void (*change)(cgx_place *), cgx_view *view) {
-    cgx_place place = cgx_start(file.bytes, file.size).place, before = place;
-    while (cgx_step(file.bytes, file.size, &place, view).status == CGX_STEP_RECORD && view->kind != CGX_BOX) before = place;
+static uint32_t from_box(blob file, void (*change)(cgx_place *), cgx_view *view) {
+    uint64_t at = 0;
+    cgx_place place, before;
+    cgx_start(file.bytes, file.size, &place, &at);
+    before = place;
+    while (cgx_step(file.bytes, file.size, &place, view, &at) == CGX_OK && view->kind != CGX_BOX) before = place;
     change(&before);
-    return cgx_step(file.bytes, file.size, &before, view);
+    return cgx_step(file.bytes, file.size, &before, view, &at);
 }
 
-static void cell_at_0(cgx_place *place) { place->cell.at = 0; }
-static void layer_at_0(cgx_place *place) { place->layer.at = 0; }
-static void run_of_none(cgx_place *place) {
-    place->run.present = true;
-    place->run.first = 4;
-    place->run.count = 0;
+static void no_cell(cgx_place *place) { place->cell = 0; }
+static void no_layer(cgx_place *place) { place->layer = 0; }
+static void no_properties(cgx_place *place) {
+    place->properties.first = 4;
+    place->properties.count = 0;
 }
 
 static void none(void) {
     blob file = hex(every_kind);
     cgx_view view;
-    cgx_step_answer cell = from_box(file, cell_at_0, &view), layer = from_box(file, layer_at_0, &view), run;
-    expect(cell.status == CGX_STEP_REFUSED && cell.number == CGX_REFUSED_ORDER, "0 is none", "no cell");
-    expect(layer.status == CGX_STEP_REFUSED && layer.number == CGX_REFUSED_ORDER, "0 is none", "no layer");
-    run = from_box(file, run_of_none, &view);
-    expect(run.status == CGX_STEP_RECORD && view.kind == CGX_BOX && !view.run.present, "0 is none", "no run");
+    expect(from_box(file, no_cell, &view) == CGX_REFUSED_ORDER, "0 is none", "no cell");
+    expect(from_box(file, no_layer, &view) == CGX_REFUSED_ORDER, "0 is none", "no layer");
+    expect(from_box(file, no_properties, &view) == CGX_OK && view.kind == CGX_BOX && view.properties.first == 0
+            && view.properties.count == 0, "0 is none", "no properties");
     drop(file);
 }
 
 /* ---- lists and texts that are made up */
 
+static bool is_inside(blob file, cgx_text t) {
+    return ask_inside(file, t) == CGX_OK && cgx_text_bytes(file.bytes, file.size, &t) == file.bytes + t.at;
+}
+
+static bool is_outside(blob file, cgx_text t) {
+    return ask_inside(file, t) == CGX_NOTHING && cgx_text_bytes(file.bytes, file.size, &t) == NULL;
+}
+
 static void made_up(void) {
     blob file = hex(SMALL);
-    cgx_list at_end = {80, 9}, past_end = {96, 1}, far = {SIZE_MAX, SIZE_MAX};
-    cgx_text whole = {0, 96}, none = {96, 0}, long_one = {1, 96}, beyond = {97, 0}, most = {2, SIZE_MAX};
-    expect(cgx_box_at(file.bytes, file.size, at_end, 0).found, "list", "a box up to the end");
-    expect(!cgx_box_at(file.bytes, file.size, at_end, 1).found, "list", "a box past the end");
-    expect(cgx_point_at(file.bytes, file.size, at_end, 1).found, "list", "a point up to the end");
-    expect(!cgx_point_at(file.bytes, file.size, at_end, 2).found, "list", "a point past the end");
-    expect(!cgx_point_at(file.bytes, file.size, past_end, 0).found, "list", "a point past the end");
-    expect(!cgx_box_at(file.bytes, file.size, far, SIZE_MAX - 1).found, "list", "a box far away");
-    expect(!cgx_point_at(file.bytes, file.size, far, SIZE_MAX / 8).found, "list", "a point far away");
-    expect(cgx_text_inside(file.bytes, file.size, whole), "text", "the whole file");
-    expect(cgx_text_inside(file.bytes, file.size, none), "text", "nothing at the end");
-    expect(!cgx_text_inside(file.bytes, file.size, long_one), "text", "one byte too long");
-    expect(!cgx_text_inside(file.bytes, file.size, beyond), "text", "nothing past the end");
-    expect(!cgx_text_inside(file.bytes, file.size, most), "text", "a length that does not fit");
-    expect(cgx_text_bytes(file.bytes, file.size, whole) == file.bytes, "text", "its bytes");
-    expect(cgx_text_bytes(file.bytes, file.size, beyond) == NULL, "text", "no bytes");
+    const cgx_list at_end = {80, 9}, past_end = {96, 1}, far = {UINT64_MAX, UINT64_MAX};
+    const cgx_box last = {-57, 82, 58, 0x00040a00};
+    expect(is_box(file, at_end, 0, last), "list", "a box up to the end");
+    expect(no_box(file, at_end, 1), "list", "a box past the end");
+    expect(is_point(file, at_end, 1, 58, 0x00040a00), "list", "a point up to the end");
+    expect(no_point(file, at_end, 2), "list", "a point past the end");
+    expect(no_point(file, past_end, 0), "list", "a point past the end");
+    expect(no_box(file, far, UINT64_MAX - 1), "list", "a box far away");
+    expect(no_box(file, far, 0), "list", "a box far away, the first");
+    expect(no_point(file, far, UINT64_MAX / 8), "list", "a point far away");
+    expect(no_point(file, list(0, UINT64_MAX), UINT64_MAX / 8 + 1), "list", "a point whose offset is no number");
+    expect(is_inside(file, text(0, 96)), "text", "the whole file");
+    expect(is_inside(file, text(96, 0)), "text", "nothing at the end");
+    expect(is_outside(file, text(1, 96)), "text", "one byte too long");
+    expect(is_outside(file, text(97, 0)), "text", "nothing past the end");
+    expect(is_outside(file, text(2, UINT64_MAX)), "text", "a length that does not fit");
     drop(file);
 }
 
 /* ---- layer names */
 
-static void layer(blob file, size_t at, uint8_t good, bool own, size_t from, size_t len) {
+static void layer(blob file, uint64_t at, uint32_t number, cgx_text name) {
     blob substitute = copy_of("5/-3", 4);
-    cgx_name_answer n = cgx_layer_name(file.bytes, file.size, at, substitute.bytes, substitute.size);
+    cgx_text shown = unused_cgx_text();
+    uint32_t good = number == CGX_SUBSTITUTE ? CGX_OK : number;
     expect(cgx_layer_at(file.bytes, file.size, at) == good, "layer", "a good LAYER or 16");
-    expect(n.own == own && n.len == len && (!own || n.at == from), "layer", "name");
+    expect(ask_layer_name(file, at, substitute, &shown) == number, "layer", "its name, the substitute or 16");
+    expect(number == CGX_REFUSED_NO_SUCH || SAME(&shown, &name), "layer", "name");
     drop(substitute);
 }
 
 static void layers(void) {
-    blob file = hex(every_kind), cut = copy_of(file.bytes, 87), bad = hex(every_kind);
-    layer(file, 76, 0, true, 84, 2);
-    layer(file, 320, 0, false, 0, 4);
-    layer(file, 328, 0, false, 0, 4);
-    layer(file, 0, 16, false, 0, 0);
-    layer(file, 2, 16, false, 0, 0);
-    layer(file, 77, 16, false, 0, 0);
-    layer(file, 64, 16, false, 0, 0);
-    layer(file, 342, 16, false, 0, 0);
-    layer(file, SIZE_MAX, 16, false, 0, 0);
-    layer(file, SIZE_MAX - 1, 16, false, 0, 0);
-    layer(cut, 76, 16, false, 0, 0);
+    blob file = hex(every_kind), cut = copy_of(file.bytes, 87), bad = hex(every_kind), nothing = copy_of("", 0);
+    static const uint64_t none_at[] = {0, 2, 77, 64, 342, UINT64_MAX, UINT64_MAX - 1};
+    cgx_text shown = unused_cgx_text(), empty = {0, 0};
+    size_t i;
+    layer(file, 76, CGX_OK, text(84, 2));
+    layer(file, 320, CGX_SUBSTITUTE, text(0, 4));
+    layer(file, 328, CGX_SUBSTITUTE, text(0, 4));
+    for (i = 0; i < sizeof none_at / sizeof none_at[0]; i++) layer(file, none_at[i], CGX_REFUSED_NO_SUCH, empty);
+    layer(cut, 76, CGX_REFUSED_NO_SUCH, empty);
     bad.bytes[86] = 'x';
-    layer(bad, 76, 0, true, 84, 3);
+    layer(bad, 76, CGX_OK, text(84, 3));
     bad.bytes[85] = 0;
-    layer(bad, 76, 16, false, 0, 0);
+    layer(bad, 76, CGX_REFUSED_NO_SUCH, empty);
+    expect(ask_layer_name(file, 320, nothing, &shown) == CGX_SUBSTITUTE && SAME(&shown, &empty), "layer",
+        "an empty substitute");
+    drop(nothing);
     drop(bad);
     drop(cut);
     drop(file);
@@ -489,17 +533,20 @@ static void layers(void) {
 
 /* ---- extents */
 
+static bool is_extent(blob file, uint64_t cell, cgx_box sides) {
+    cgx_box b = unused_cgx_box();
+    return ask_extent(file, cell, &b).number == CGX_OK && SAME(&b, &sides);
+}
+
 static void extents(void) {
     blob file = hex(every_kind), wide = hex(LAYERED BOX_1 "0014 05 00 ffffff00 00000000 00000001 00000001" ENDLIB);
-    cgx_extent_answer first = cgx_extent(file.bytes, file.size, 0), second = cgx_extent(file.bytes, file.size, 1),
-                      third = cgx_extent(file.bytes, file.size, 2), two = cgx_extent(wide.bytes, wide.size, 0);
-    expect(first.status == CGX_EXTENT_FOUND && first.sides.left == -80 && first.sides.bottom == INT32_MIN
-            && first.sides.right == INT32_MAX && first.sides.top == 58, "extent", "boxes, polygon and wire");
-    expect(second.status == CGX_EXTENT_NOTHING, "extent", "nothing");
-    expect(third.status == CGX_EXTENT_REFUSED && third.number == CGX_REFUSED_NO_SUCH && !third.at.present, "extent",
-        "no such cell");
-    expect(two.status == CGX_EXTENT_FOUND && two.sides.left == -256 && two.sides.bottom == -57 && two.sides.right == 82
-            && two.sides.top == 58, "extent", "two boxes");
+    const cgx_box all = {-80, INT32_MIN, INT32_MAX, 58}, two = {-256, -57, 82, 58};
+    cgx_box none = unused_cgx_box();
+    expect(is_extent(file, 0, all), "extent", "boxes, polygon and wire");
+    expect(ask_extent(file, 1, &none).number == CGX_NOTHING, "extent", "nothing");
+    expect(ask_extent(file, 2, &none).number == CGX_REFUSED_NO_SUCH, "extent", "no such cell");
+    expect(ask_extent(file, UINT64_MAX, &none).number == CGX_REFUSED_NO_SUCH, "extent", "the last number");
+    expect(is_extent(wide, 0, two), "extent", "two boxes");
     drop(wide);
     drop(file);
 }
@@ -508,12 +555,14 @@ static void extents(void) {
 
 static bool agree(blob file, blob out) {
     size_t records;
-    cgx_verdict v = cgx_check(file.bytes, file.size);
-    cgx_step_answer last = walked(file, &records);
-    cgx_normal_answer n = cgx_normal_form(file.bytes, file.size, out.bytes, out.size);
-    if (v.accepted) return last.status == CGX_STEP_DONE && n.made && n.length <= file.size;
-    return last.status == CGX_STEP_REFUSED && last.number == v.number && last.at.present && last.at.at == v.at && !n.made
-        && n.number == v.number && n.at.present && n.at.at == v.at;
+    uint64_t measured = unused_uint64_t(), length = measured;
+    told v = ask_check(file), last = walked(file, &records), m = ask_normal_length(file, &measured),
+         n = ask_normal_form(file, out, &length);
+    if (v.number == CGX_OK) {
+        return last.number == CGX_DONE && m.number == CGX_OK && n.number == CGX_OK && length == measured
+            && length <= file.size;
+    }
+    return refuses(last, v.number, v.at) && refuses(m, v.number, v.at) && refuses(n, v.number, v.at);
 }
 
 static void cut_and_edited(void) {
@@ -525,7 +574,7 @@ static void cut_and_edited(void) {
     out.bytes = lend(out.size);
     for (n = 0; n < file.size; n++) {
         blob cut = copy_of(file.bytes, n);
-        cuts = cuts && agree(cut, out) && !cgx_check(cut.bytes, cut.size).accepted;
+        cuts = cuts && agree(cut, out) && ask_check(cut).number != CGX_OK;
         drop(cut);
     }
     expect(cuts, "every beginning of a file", "is refused, by all alike");
@@ -549,7 +598,6 @@ void test_reading(void) {
     most_boxes();
     views();
     read_again();
-    nano();
     forged();
     none();
     made_up();

@@ -22,7 +22,7 @@ void expect(bool good, const char *name, const char *what) {
 /* ---- buffers */
 
 static enum { HEAP, AFTER, BEFORE } guard = AFTER;
-enum { PAGE = 4096, FILL = 0xa5 };
+enum { PAGE = 4096 };
 
 static void *or_stop(void *p) {
     if (p == NULL || p == MAP_FAILED) {
@@ -73,6 +73,10 @@ void give_back(uint8_t *bytes, size_t n) {
         }
     }
     munmap(pages - PAGE, inner + 2 * PAGE);
+}
+
+size_t least_aligned(size_t alignment) {
+    return guard == AFTER || alignment >= 8 ? 0 : alignment;
 }
 
 /* ---- bytes */
@@ -127,32 +131,22 @@ void put_long(uint8_t *to, int32_t number) {
     put_short(to + 2, bits & 0xffff);
 }
 
-bool same_offset(cgx_offset a, cgx_offset b) {
-    return a.present == b.present && (!a.present || a.at == b.at);
-}
-
-bool same_place(cgx_place a, cgx_place b) {
-    bool run = a.run.present == b.run.present
-        && (!a.run.present || (a.run.first == b.run.first && a.run.count == b.run.count));
-    return a.at == b.at && same_offset(a.cell, b.cell) && same_offset(a.layer, b.layer) && run
-        && a.library == b.library && a.fresh == b.fresh && a.ended == b.ended;
-}
-
-void forged_places(size_t size, cgx_place places[FORGED]) {
-    const cgx_offset above = {true, 5};
-    const cgx_run run_above = {true, 5, 1}, count_above = {true, 4, 5};
-    cgx_place start = {.at = 4};
+void forged_places(uint64_t size, cgx_place places[FORGED]) {
+    const cgx_place start = {.at = 4, .seen = ~(uint64_t)7}; /* with bits that are not looked at, and stay */
     size_t i;
     for (i = 0; i < FORGED; i++) places[i] = start;
     places[0].at = 0;
     places[1].at = 2;
     places[2].at = 5;
     places[3].at = size + 2;
-    places[4].at = SIZE_MAX - 1;
-    places[5].cell = above;
-    places[6].layer = above;
-    places[7].run = run_above;
-    places[8].run = count_above;
+    places[4].at = UINT64_MAX - 1;
+    places[5].cell = 5;
+    places[6].layer = 5;
+    places[7].properties.first = 5;
+    places[7].properties.count = 1;
+    places[8].properties.first = 4;
+    places[8].properties.count = 5;
+    places[9].cell = UINT64_MAX;
 }
 
 const char every_kind[] = CGX
@@ -198,9 +192,11 @@ int main(int argc, char **argv) {
     const char *where = argc > 1 ? argv[1] : "after";
     guard = strcmp(where, "heap") == 0 ? HEAP : strcmp(where, "before") == 0 ? BEFORE : AFTER;
     test_reading();
+    test_reals();
     test_normal_form();
     test_writing();
     test_makers();
+    test_words();
     printf("%lu passed, %lu failed\n", passed, failed);
     return failed == 0 ? 0 : 1;
 }

@@ -4,13 +4,20 @@
 
 #include "cgx.h"
 
+#include <stdbool.h>
+
 /* Counts one test, and prints its name where it failed. */
 void expect(bool good, const char *name, const char *what);
 
 /* Lends n bytes, all 0xa5. Depending on how the tests are run a byte after the last, or before the first, cannot be
    touched without a fault; or the bytes are the heap's. */
+enum { FILL = 0xa5 };
 uint8_t *lend(size_t n);
 void give_back(uint8_t *bytes, size_t n);
+
+/* How far lent memory for something of this alignment begins after an address of a greater one. None where a page that
+   may not be touched follows it, since there the end of it counts. */
+size_t least_aligned(size_t alignment);
 
 /* Bytes in a lent buffer. */
 typedef struct {
@@ -28,12 +35,12 @@ bool same_bytes(blob a, blob b);
 void put_short(uint8_t *to, unsigned number);
 void put_long(uint8_t *to, int32_t number);
 
-bool same_offset(cgx_offset a, cgx_offset b);
-bool same_place(cgx_place a, cgx_place b);
+/* No struct of the header has padding, so that two are the same where their bytes are. */
+#define SAME(a, b) (sizeof *(a) == sizeof *(b) && memcmp((a), (b), sizeof *(a)) == 0)
 
 /* Places that are forged for a file or buffer of `size` bytes, an even number: one for each clause, and more. */
-enum { FORGED = 9 };
-void forged_places(size_t size, cgx_place places[FORGED]);
+enum { FORGED = 10 };
+void forged_places(uint64_t size, cgx_place places[FORGED]);
 
 /* The drawing of 96 bytes: LIBRARY "m", STRUCT "a", an unnamed LAYER, one box, ENDLIB. */
 #define CGX "63677800 "
@@ -50,8 +57,10 @@ extern const char every_kind[];
 extern const char every_kind_normal[];
 
 void test_reading(void);
+void test_reals(void);
 void test_normal_form(void);
 void test_writing(void);
 void test_makers(void);
+void test_words(void);
 
 #endif

@@ -37,6 +37,7 @@ fn compare_all(case: &mut compare::Case, file: &[u8]) {
     compare::whole_file(case, file, &mut rng);
     compare::made_up_places(case, file, &offsets(file), &mut rng);
     compare::made_up_lists(case, file, &mut rng);
+    compare::reals_in(case, file);
 }
 
 /// Where the records begin that a walk reaches.

@@ -131,7 +131,7 @@ fn random_case(report: &mut Report, seed: u64, index: u64) {
     let mut rng = Rng::new(Rng::new(seed).bits() ^ Rng::new(index).bits());
     let origin = format!("--seed {seed} --from {index} --count 1");
     let rng = &mut rng;
-    match index % 12 {
+    match index % 13 {
         0 => {
             let file = generate::valid(rng).bytes();
             whole_file(report, "good file", &origin, &file, index);
@@ -168,6 +168,9 @@ fn random_case(report: &mut Report, seed: u64, index: u64) {
         8 => good_calls(report, &origin, rng),
         9 => any_calls(report, &origin, rng),
         10 => calls_at_places(report, &origin, rng),
+        11 => report.case("reals and doubles", &origin, &[], |case, _| {
+            compare::reals(case, rng);
+        }),
         _ => {
             let file = generate::valid(rng).bytes();
             report.case("made-up lists and texts", &origin, &file, |case, file| {

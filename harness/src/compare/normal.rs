@@ -8,6 +8,7 @@ use crate::reference::{self, Verdict};
 /// The rooms tried for a file: none, the length of its normal form and those
 /// around it, and more. A refused file must leave each of them as it is.
 pub fn normal_forms(case: &mut Case, file: &[u8]) {
+    length(case, file);
     let mut form = vec![0; file.len()];
     match reference::normal_form(file, &mut form) {
         Ok(length) => {
@@ -23,6 +24,14 @@ pub fn normal_forms(case: &mut Case, file: &[u8]) {
             }
         }
     }
+}
+
+/// The length of the normal form, as the reference makes it with enough room.
+fn length(case: &mut Case, file: &[u8]) {
+    let answer = reference::normal_form(file, &mut vec![0; file.len()]);
+    let other = archive::normal_length(file);
+    case.outcome(&answer);
+    case.same(|| "length of the normal form".to_string(), &answer, &other);
 }
 
 /// One output, with all its bytes and those around it.

@@ -1,7 +1,9 @@
 //! What was compared, and what differed.
 
+use std::any::Any;
 use std::collections::BTreeMap;
 use std::fmt::{Debug, Write};
+use std::panic::{self, AssertUnwindSafe};
 
 use crate::archive::Fence;
 use crate::reference::Refusal;
@@ -61,7 +63,13 @@ impl Report {
             answers: &mut self.answers,
             differences: Vec::new(),
         };
-        compare(&mut case, self.fence.hold(input));
+        let input_held = self.fence.hold(input);
+        // What the archive may not touch is asserted: such a panic fails the
+        // case, and the others go on.
+        let run = panic::catch_unwind(AssertUnwindSafe(|| compare(&mut case, input_held)));
+        if let Err(words) = run {
+            case.differences.push(format!("panic: {}", told(&*words)));
+        }
         let differences = case.differences;
         if !differences.is_empty() && self.failed_cases() < MOST_TOLD {
             println!("{kind}, {origin}\n  input: {}", hex(input));
@@ -148,6 +156,13 @@ impl Case<'_> {
     pub fn outcome<T>(&mut self, answer: &Result<T, Refusal>) {
         self.number(answer.as_ref().map_or_else(|refusal| refusal.number, |_| 0));
     }
+}
+
+/// The words of a panic.
+fn told(words: &(dyn Any + Send)) -> &str {
+    let fixed = words.downcast_ref::<&str>().copied();
+    let formatted = || words.downcast_ref::<String>().map(String::as_str);
+    fixed.or_else(formatted).unwrap_or("without words")
 }
 
 fn hex(bytes: &[u8]) -> String {

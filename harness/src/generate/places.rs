@@ -1,6 +1,5 @@
 //! Made-up places: forged ones, and ones that pass. None of them has a record at
-//! offset 0 or a run of no properties: the library takes 0 for none, and the
-//! reference does not.
+//! offset 0 or a run of no properties, which C cannot say: there 0 is none.
 
 use super::rng::Rng;
 use crate::reference::{Place, Run};

@@ -152,6 +152,35 @@ impl StoredReal {
         digits < 14 && u128::from(high.m) << (4 * digits) == u128::from(low.m)
     }
 
+    /// The normal real that equals a double, where one does. Each exponent is
+    /// tried in turn: the first whose mantissa is whole and fits is the normal
+    /// one.
+    pub fn of_double(double: f64) -> Option<Self> {
+        if double.to_bits() == 0 {
+            return Some(StoredReal::ZERO);
+        }
+        if double == 0.0 || !double.is_normal() {
+            return None;
+        }
+        let bits = double.to_bits();
+        let digits = u128::from(bits & ((1 << 52) - 1) | 1 << 52);
+        let power = (bits >> 52 & 0x7ff) as i32 - 1075;
+        (0..=127).find_map(|e| {
+            // m = digits × 2^up.
+            let up = power + 4 * (64 - i32::from(e)) + MANTISSA_BITS as i32;
+            let m = match up {
+                0..=56 => digits << up,
+                -52..=-1 if digits.trailing_zeros() >= up.unsigned_abs() => digits >> -up,
+                _ => return None,
+            };
+            (m <= u128::from(MANTISSA)).then_some(StoredReal {
+                sign: double.is_sign_negative(),
+                e,
+                m: m as u64,
+            })
+        })
+    }
+
     /// The double of the same value, or the parts where there is none.
     pub fn answer(self) -> Real {
         let StoredReal { sign, e, m } = self;

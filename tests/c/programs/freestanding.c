@@ -16,10 +16,9 @@ static const uint8_t drawing[96] = {
 int checked(void);
 
 int checked(void) {
-    cgx_verdict whole = cgx_check(drawing, sizeof drawing);
-    cgx_verdict cut = cgx_check(drawing, sizeof drawing - 1);
-    if (!whole.accepted) return 1;
-    if (cut.accepted || cut.number != CGX_REFUSED_CUT || cut.at != 92) return 2;
+    uint64_t at = 1;
+    if (cgx_check(drawing, sizeof drawing, &at) != CGX_OK || at != 1) return 1;
+    if (cgx_check(drawing, sizeof drawing - 1, &at) != CGX_REFUSED_CUT || at != 92) return 2;
     return 0;
 }
 

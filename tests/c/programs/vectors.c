@@ -4,7 +4,9 @@
    case. It needs no more of the C library than standard input and output. */
 #include "cgx.h"
 
+#include <inttypes.h>
 #include <stdarg.h>
+#include <stdbool.h>
 #include <stdio.h>
 
 enum { LARGEST = 200000, LONGEST = 16384, NAME = 200, MOST_ITEMS = 64, MARGIN = 64, FILLER = 170 };
@@ -135,34 +137,38 @@ static void end_part(void) {
 
 /* ---- words of a line */
 
-static void put_refusal(uint8_t number, cgx_offset at) {
-    put("refused %u", number);
-    if (at.present) put(" at %zu", at.at);
+/* What `at` holds before a call: where it still does, the answer names no offset. */
+#define UNNAMED UINT64_MAX
+
+static void put_refusal(uint32_t number, uint64_t at) {
+    put("refused %" PRIu32, number);
+    if (at != UNNAMED) put(" at %" PRIu64, at);
 }
 
-static void put_offset(const char *word, cgx_offset o) {
+static void put_offset(const char *word, uint64_t at) {
     put(" %s ", word);
-    if (o.present) {
-        put("%zu", o.at);
+    if (at != 0) {
+        put("%" PRIu64, at);
     } else {
         put("-");
     }
 }
 
-static void put_context(cgx_offset cell, cgx_offset layer, cgx_run run) {
+static void put_context(uint64_t cell, uint64_t layer, cgx_list properties) {
     put_offset("cell", cell);
     put_offset("layer", layer);
-    if (run.present) {
-        put(" run %zu+%zu", run.first, run.count);
+    if (properties.count != 0) {
+        put(" run %" PRIu64 "+%" PRIu64, properties.first, properties.count);
     } else {
         put(" run -");
     }
 }
 
 static void put_place(const cgx_place *p) {
-    put("place %zu", p->at);
-    put_context(p->cell, p->layer, p->run);
-    put("%s%s%s", p->library ? " library" : "", p->fresh ? " fresh" : "", p->ended ? " ended" : "");
+    put("place %" PRIu64, p->at);
+    put_context(p->cell, p->layer, p->properties);
+    put("%s%s%s", p->seen & CGX_SEEN_LIBRARY ? " library" : "", p->seen & CGX_SEEN_FRESH ? " fresh" : "",
+        p->seen & CGX_SEEN_ENDLIB ? " ended" : "");
     end_line();
 }
 
@@ -171,13 +177,11 @@ static void put_real(cgx_real r) {
         double value;
         uint64_t bits;
     } exact;
-    exact.value = r.value;
-    if (!r.present) {
-        put(" -");
-    } else if (r.exact) {
-        put(" exact %016llx", (unsigned long long)exact.bits);
+    if (cgx_real_double(&r, &exact.value) == CGX_OK) {
+        put(" exact %016" PRIx64, exact.bits);
     } else {
-        put(" inexact %c %u %llu", r.negative ? '-' : '+', r.e, (unsigned long long)r.m);
+        put(" inexact %c %" PRIu32 " %" PRIu64, cgx_real_negative(&r) ? '-' : '+', cgx_real_exponent(&r),
+            cgx_real_mantissa(&r));
     }
 }
 
@@ -205,34 +209,47 @@ static void put_bytes(const uint8_t *bytes, size_t count) {
 }
 
 static void put_text(cgx_text t) {
-    const uint8_t *bytes = cgx_text_bytes(file, size, t);
-    put(" %zu+%zu", t.at, t.len);
+    const uint8_t *bytes = cgx_text_bytes(file, size, &t);
+    put(" %" PRIu64 "+%" PRIu64, t.at, t.len);
     if (bytes == NULL) {
         put(" outside");
     } else if (t.len > MOST_ITEMS) {
-        put(" %08lx", (unsigned long)checksum(bytes, t.len));
+        put(" %08lx", (unsigned long)checksum(bytes, (size_t)t.len));
     } else {
-        put_bytes(bytes, t.len);
+        put_bytes(bytes, (size_t)t.len);
     }
 }
 
 static void put_list(cgx_list l) {
-    put(" %zu+%zu", l.first, l.count);
+    put(" %" PRIu64 "+%" PRIu64, l.first, l.count);
 }
 
-static void put_array(cgx_array a) {
-    if (!a.present) {
+/* What the flags do not have is `-`. */
+static void put_placement(uint32_t flags, const cgx_placement *p) {
+    put_point(p->point);
+    if (flags & CGX_SREF_ANGLE) {
+        put_real(p->angle);
+    } else {
         put(" -");
-        return;
     }
-    put_long(a.cols);
-    put_long(a.rows);
-    put_point(a.across);
-    put_point(a.up);
+    if (flags & CGX_SREF_MAGNIF) {
+        put_real(p->magnif);
+    } else {
+        put(" -");
+    }
+    if (flags & CGX_SREF_ARRAY) {
+        put_long(p->cols);
+        put_long(p->rows);
+        put_point(p->across);
+        put_point(p->up);
+    } else {
+        put(" -");
+    }
 }
 
-static void put_fields(uint8_t kind, const cgx_fields *f) {
-    switch (kind) {
+static void put_fields(const cgx_view *v) {
+    const cgx_fields *f = &v->fields;
+    switch (v->kind) {
     case CGX_LIBRARY:
         put_real(f->library.munit);
         put_real(f->library.uunit);
@@ -251,7 +268,7 @@ static void put_fields(uint8_t kind, const cgx_fields *f) {
         put_text(f->property.value);
         break;
     case CGX_LAYER:
-        put(" %d %d", f->layer.number.number, f->layer.datatype.number);
+        put(" %d %d", f->layer.id.number, f->layer.id.datatype);
         if (f->layer.named) {
             put_text(f->layer.name);
         } else {
@@ -265,15 +282,12 @@ static void put_fields(uint8_t kind, const cgx_fields *f) {
         put_list(f->wire.points);
         break;
     case CGX_TEXT:
-        put_point(f->text.at);
+        put_point(f->text.point);
         put_long(f->text.width);
         put_text(f->text.label);
         break;
     case CGX_SREF:
-        put_point(f->sref.at);
-        put_real(f->sref.angle);
-        put_real(f->sref.magnif);
-        put_array(f->sref.array);
+        put_placement(v->flags, &f->sref.placement);
         put_text(f->sref.name);
         break;
     default: break;
@@ -283,26 +297,29 @@ static void put_fields(uint8_t kind, const cgx_fields *f) {
 /* ---- boxes and points: all items, or of a long list their checksum, and then the first index outside */
 
 /* The longs of an item, two or four; whether there is one. */
-static bool item_at(bool boxes, cgx_list list, size_t i, int32_t longs[4]) {
+static bool item_at(bool boxes, cgx_list list, uint64_t i, int32_t longs[4]) {
     if (boxes) {
-        cgx_box_answer b = cgx_box_at(file, size, list, i);
+        cgx_box b = {0, 0, 0, 0};
+        uint32_t answer = cgx_box_at(file, size, &list, i, &b);
         longs[0] = b.left;
         longs[1] = b.bottom;
         longs[2] = b.right;
         longs[3] = b.top;
-        return b.found;
+        return answer == CGX_OK;
     } else {
-        cgx_point_answer p = cgx_point_at(file, size, list, i);
-        longs[0] = p.point.x;
-        longs[1] = p.point.y;
-        return p.found;
+        cgx_point p = {0, 0};
+        uint32_t answer = cgx_point_at(file, size, &list, i, &p);
+        longs[0] = p.x;
+        longs[1] = p.y;
+        return answer == CGX_OK;
     }
 }
 
 static void put_items(bool boxes, cgx_list list) {
     uint32_t sum = EMPTY;
     int32_t longs[4];
-    size_t i, k;
+    uint64_t i;
+    size_t k;
     int shift;
     put(boxes ? "boxes" : "points");
     for (i = 0; i < list.count; i++) {
@@ -318,11 +335,9 @@ static void put_items(bool boxes, cgx_list list) {
 }
 
 static void put_record(const cgx_view *v) {
-    static const char *const kinds[] = {
-        "LIBRARY", "STRUCT", "CPRPTY", "PROPERTY", "LAYER", "BOX", "POLY", "WIRE", "TEXT", "SREF", "ENDLIB"};
-    put("%zu %s flags %u", v->at, kinds[v->kind], v->flags);
-    put_context(v->cell, v->layer, v->run);
-    put_fields(v->kind, &v->fields);
+    put("%" PRIu64 " %s flags %" PRIu32, v->at, cgx_kind_name(v->kind), v->flags);
+    put_context(v->cell, v->layer, v->properties);
+    put_fields(v);
     end_line();
     if (v->kind == CGX_BOX) put_items(true, v->fields.box.boxes);
     if (v->kind == CGX_POLY) put_items(false, v->fields.poly.points);
@@ -331,102 +346,104 @@ static void put_record(const cgx_view *v) {
 
 /* ---- the parts of a case */
 
-static void put_end(cgx_step_answer step) {
-    if (step.status == CGX_STEP_DONE) {
+static void put_end(uint32_t answer, uint64_t at) {
+    if (answer == CGX_DONE) {
         put("done");
     } else {
-        put_refusal(step.number, step.at);
+        put_refusal(answer, at);
     }
     end_line();
 }
 
 static void ask_check(void) {
-    cgx_verdict v = cgx_check(file, size);
-    cgx_offset at = {true, v.at};
-    if (v.accepted) {
+    uint64_t at = UNNAMED;
+    uint32_t answer = cgx_check(file, size, &at);
+    if (answer == CGX_OK) {
         put("accepted");
     } else {
-        put_refusal(v.number, at);
+        put_refusal(answer, at);
     }
     end_line();
 }
 
 static void ask_walk(void) {
-    cgx_start_answer start = cgx_start(file, size);
-    cgx_place place = start.place;
+    cgx_place place;
     cgx_view view;
-    cgx_step_answer step;
-    if (!start.ready) {
+    uint64_t at = UNNAMED;
+    uint32_t answer = cgx_start(file, size, &place, &at);
+    if (answer != CGX_OK) {
         put("start ");
-        put_refusal(start.number, start.at);
+        put_refusal(answer, at);
         end_line();
         return;
     }
-    step = cgx_step(file, size, &place, &view);
-    while (step.status == CGX_STEP_RECORD) {
-        put_record(&view);
-        step = cgx_step(file, size, &place, &view);
-    }
-    put_end(step);
+    while ((answer = cgx_step(file, size, &place, &view, &at)) == CGX_OK) put_record(&view);
+    put_end(answer, at);
 }
 
 static void ask_step(cgx_place place) {
     cgx_view view;
-    cgx_step_answer step = cgx_step(file, size, &place, &view);
-    if (step.status == CGX_STEP_RECORD) {
+    uint64_t at = UNNAMED;
+    uint32_t answer = cgx_step(file, size, &place, &view, &at);
+    if (answer == CGX_OK) {
         put_record(&view);
     } else {
-        put_end(step);
+        put_end(answer, at);
     }
-    if (step.status != CGX_STEP_DONE) put_place(&place);
+    if (answer != CGX_DONE) put_place(&place);
 }
 
-/* One call of the maker. Bytes beyond what it says that it has written, and all where it refuses, must be the filler still. */
-static cgx_normal_answer made(const char *word, size_t room) {
-    cgx_normal_answer n;
+/* One call of the maker, and its length, 0 where it refuses. Bytes beyond what it says that it has written, and all where it
+   refuses, must be the filler still. */
+static uint64_t made(const char *word, uint64_t room) {
+    uint64_t length = 0, at = UNNAMED;
     size_t i;
+    uint32_t answer;
     for (i = 0; i < size + MARGIN; i++) out[i] = FILLER;
-    n = cgx_normal_form(file, size, out, room);
+    answer = cgx_normal_form(file, size, out, room, &length, &at);
     put("%s ", word);
-    for (i = n.made ? n.length : 0; i < size + MARGIN; i++) {
+    for (i = (size_t)length; i < size + MARGIN; i++) {
         if (out[i] != FILLER) {
             put("touched at %zu ", i);
             break;
         }
     }
-    if (n.made) {
-        put("%zu %08lx", n.length, (unsigned long)checksum(out, n.length));
+    if (answer == CGX_OK) {
+        put("%" PRIu64 " %08lx", length, (unsigned long)checksum(out, (size_t)length));
     } else {
-        put_refusal(n.number, n.at);
+        put_refusal(answer, at);
     }
     end_line();
-    return n;
+    return length;
 }
 
 /* With room as for the file, and then with one byte too few. The normal form is never longer than the file. */
 static void ask_normal(void) {
-    cgx_normal_answer n = made("normal", size);
-    if (n.made) made("short", n.length - 1);
+    uint64_t length = made("normal", size), measured = 0, at;
+    if (cgx_normal_length(file, size, &measured, &at) == CGX_OK ? measured != length : length != 0) {
+        put("measured %" PRIu64, measured);
+        end_line();
+    }
+    if (length > 0) made("short", length - 1);
 }
 
 /* Every offset is asked, and the end. */
 static void ask_layers(void) {
     static const uint8_t substitute[7] = {'u', 'n', 'n', 'a', 'm', 'e', 'd'};
-    size_t at;
+    uint64_t at;
     for (at = 0; at <= size; at++) {
-        cgx_name_answer shown = cgx_layer_name(file, size, at, substitute, sizeof substitute);
-        uint8_t answer = cgx_layer_at(file, size, at);
-        if (answer == 0) {
-            put("layer %zu", at);
-            if (shown.own) {
-                cgx_text text = {shown.at, shown.len};
-                put_text(text);
-            } else {
-                put(" substitute %zu", shown.len);
-            }
+        cgx_text name = {0, 0};
+        uint32_t good = cgx_layer_at(file, size, at);
+        uint32_t shown = cgx_layer_name(file, size, at, substitute, sizeof substitute, &name);
+        if (good == CGX_OK && shown == CGX_OK) {
+            put("layer %" PRIu64, at);
+            put_text(name);
             end_line();
-        } else if (answer != CGX_REFUSED_NO_SUCH || shown.own || shown.len != 0) {
-            put("layer %zu has answer %u, own %d, length %zu", at, answer, shown.own, shown.len);
+        } else if (good == CGX_OK && shown == CGX_SUBSTITUTE) {
+            put("layer %" PRIu64 " substitute %" PRIu64, at, name.len);
+            end_line();
+        } else if (good != CGX_REFUSED_NO_SUCH || shown != CGX_REFUSED_NO_SUCH || name.at != 0 || name.len != 0) {
+            put("layer %" PRIu64 " has answers %" PRIu32 " and %" PRIu32, at, good, shown);
             end_line();
         }
     }
@@ -434,18 +451,19 @@ static void ask_layers(void) {
 
 /* The cells in turn, up to the refusal. */
 static void ask_cells(void) {
-    size_t k;
-    uint8_t status = CGX_EXTENT_FOUND;
-    for (k = 0; status != CGX_EXTENT_REFUSED; k++) {
-        cgx_extent_answer e = cgx_extent(file, size, k);
-        status = e.status;
-        put("cell %zu ", k);
-        if (status == CGX_EXTENT_FOUND) {
-            put("%ld %ld %ld %ld", (long)e.sides.left, (long)e.sides.bottom, (long)e.sides.right, (long)e.sides.top);
-        } else if (status == CGX_EXTENT_NOTHING) {
+    uint64_t k;
+    uint32_t answer = CGX_OK;
+    for (k = 0; answer == CGX_OK || answer == CGX_NOTHING; k++) {
+        cgx_box e;
+        uint64_t at = UNNAMED;
+        answer = cgx_extent(file, size, k, &e, &at);
+        put("cell %" PRIu64 " ", k);
+        if (answer == CGX_OK) {
+            put("%ld %ld %ld %ld", (long)e.left, (long)e.bottom, (long)e.right, (long)e.top);
+        } else if (answer == CGX_NOTHING) {
             put("nothing");
         } else {
-            put_refusal(e.number, e.at);
+            put_refusal(answer, at);
         }
         end_line();
     }
@@ -467,38 +485,34 @@ static void ask_file(void) {
 
 /* ---- cases */
 
-/* A number of a place, up to 2^64 - 1; whether a size_t holds it. */
-static bool read_size(const char *word, size_t *n) {
-    unsigned long long whole = 0;
-    if (*word != '-') sscanf(word, "%llu", &whole);
-    *n = (size_t)whole;
-    return *n == whole;
+/* A number of a place, up to 2^64 - 1, or `-`, which is 0. */
+static uint64_t read_number(const char *word) {
+    uint64_t n = 0;
+    if (*word != '-') sscanf(word, "%" SCNu64, &n);
+    return n;
 }
 
-/* The place of `4 cell - layer 64 run 72+2 library fresh ended`; whether its numbers fit. */
-static bool read_place(const char *words, cgx_place *p) {
+/* The place of `4 cell - layer 64 run 72+2 library fresh ended`. */
+static cgx_place read_place(const char *words) {
     char at[24], cell[24], layer[24], first[24] = "-", count[24] = "0", marks[3][12] = {"", "", ""};
+    cgx_place p;
     int i, n = 0;
-    bool fits;
     sscanf(words, "%23s cell %23s layer %23s run %23[^+ ]%n", at, cell, layer, first, &n);
     words += n;
     if (*words == '+') sscanf(words, "+%23s%n", count, &n), words += n;
     sscanf(words, "%11s %11s %11s", marks[0], marks[1], marks[2]);
-    fits = read_size(at, &p->at);
-    fits &= read_size(cell, &p->cell.at);
-    fits &= read_size(layer, &p->layer.at);
-    fits &= read_size(first, &p->run.first);
-    fits &= read_size(count, &p->run.count);
-    p->cell.present = cell[0] != '-';
-    p->layer.present = layer[0] != '-';
-    p->run.present = first[0] != '-';
-    p->library = p->fresh = p->ended = false;
+    p.at = read_number(at);
+    p.cell = read_number(cell);
+    p.layer = read_number(layer);
+    p.properties.first = read_number(first);
+    p.properties.count = read_number(count);
+    p.seen = 0;
     for (i = 0; i < 3; i++) {
-        p->library |= same(marks[i], "library");
-        p->fresh |= same(marks[i], "fresh");
-        p->ended |= same(marks[i], "ended");
+        if (same(marks[i], "library")) p.seen |= CGX_SEEN_LIBRARY;
+        if (same(marks[i], "fresh")) p.seen |= CGX_SEEN_FRESH;
+        if (same(marks[i], "ended")) p.seen |= CGX_SEEN_ENDLIB;
     }
-    return fits;
+    return p;
 }
 
 int main(int argc, char **argv) {
@@ -508,7 +522,7 @@ int main(int argc, char **argv) {
     while (!ended) {
         const char *word = after(next, "case ");
         cgx_place place;
-        bool from = false, fits = true;
+        bool from = false;
         size_t i;
         if (word == NULL) {
             advance();
@@ -521,13 +535,9 @@ int main(int argc, char **argv) {
         differs = false;
         for (advance(); (word = after(next, "from ")) != NULL; advance()) {
             from = true;
-            fits = read_place(word, &place);
+            place = read_place(word);
         }
         for (; (word = after(next, "hex ")) != NULL; advance()) read_hex(word);
-        if (!fits) {
-            printf("%s: not asked, a number of its place is no size here\n", name);
-            continue;
-        }
         if (from) {
             ask_step(place);
         } else {

@@ -15,7 +15,7 @@ use std::process::ExitCode;
 
 use cgx_harness::generate::Call;
 use cgx_harness::reference::{self, Answer, Place, Step};
-use cgx_harness::{archive, drive, plain_c};
+use cgx_harness::{archive, drive, plain_c, words};
 use mixes::Mix;
 use timing::{best_of, Best};
 
@@ -238,7 +238,7 @@ fn taken(answer: Answer) -> Place {
 }
 
 fn write_by_archive(buffer: &mut [u8], place: Place, calls: &[Call]) {
-    let mut place = place.into();
+    let mut place = words::of_place(place);
     for call in calls {
         assert!(match call {
             Call::Boxes { sides } => archive::boxes_plain(buffer, &mut place, sides),
@@ -274,7 +274,7 @@ fn write_by_reference(buffer: &mut [u8], place: Place, calls: &[Call]) {
 }
 
 fn write_by_c(buffer: &mut [u8], place: Place, calls: &[Call]) {
-    let mut place = plain_c::Place::in_a_layer(place);
+    let mut place = plain_c::writer(place);
     for call in calls {
         let answer = match call {
             Call::Boxes { sides } => plain_c::boxes(buffer, &mut place, sides),
