@@ -76,8 +76,8 @@ pub fn put_bytes(out: &mut [u8], at: usize, src: &[u8])
     put_word(out, at + last, word_of(&src[last..]));
 }
 
-// There is no branch in the loop, so that it is compiled to a vector loop.
-fn put_each(out: &mut [u8], at: usize, src: &[u8])
+// Bytes one by one, for few or very many of them. There is no branch in the loop, so that it is compiled to a vector loop.
+pub fn put_each(out: &mut [u8], at: usize, src: &[u8])
     requires { ⌜ at + length (now src) ≤ length (now out) ⌝ }
     ensures { λ _. ⌜ now (out .exit) ≡ put (now (out .entry)) at (now (src .entry)) ⌝ }
 {

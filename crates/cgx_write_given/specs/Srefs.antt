@@ -1,8 +1,8 @@
 -- An SREF as the code computes it: what is stored of the fields that its flags tell of, and its size. Definitions only.
-use mathlib.Core.Bool.{Bool, cond}
+use mathlib.Core.Bool.{Bool}
 use mathlib.Core.List.{List, _++_}
 use Prim.Native.Nat.{ℕ, _+_, _*_, _/_}
-use Rattle.cgx_spec.specs.Kinds.{angle, magnif, array}
+use Rattle.cgx_format_sref.specs.Layouts.{srefLayout}
 use Rattle.cgx_write_given.specs.declared.Grid.{Grid}
 use Rattle.cgx_write_given.specs.Given.{eight, long, point, ifSet, stored}
 
@@ -15,10 +15,6 @@ gridIf set grid =
     stored (ifSet set (long (grid .cols)))
     ++ (stored (ifSet set (long (grid .rows))) ++ (stored (ifSet set (point (grid .across))) ++ stored (ifSet set (point (grid .up)))))
 
--- Their bytes.
-abbrev pub widthIf : Bool → ℕ → ℕ
-widthIf set width = cond set width 0
-
--- Header, x and y, then what its flags tell of, then the name with its zero bytes.
+-- Of a name of n bytes: where its layout has the name, and the name with its zero bytes.
 unfoldable pub srefSize : ℕ → ℕ → ℕ
-srefSize fl n = 12 + widthIf (angle fl) 8 + widthIf (magnif fl) 8 + widthIf (array fl) 24 + (2 + n / 2 * 2)
+srefSize fl n = srefLayout fl .name + (2 + n / 2 * 2)

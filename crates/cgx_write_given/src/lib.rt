@@ -1,11 +1,11 @@
 // What a call of the writer is given, and what it answers: the types that the definitions in specs/ and the writer's code share. And what plans, stores
 // and calls share: a date's bytes, that a list of longs is one, and the size of each kind's record.
 ghost use mathlib.Core.Path.{_≡_};
-ghost use Prim.Native.Nat.{_+_, _*_, _/_, _≤_};
+ghost use Prim.Native.Nat.{_+_, _*_, _/_};
 ghost use lib.ListN.{length};
 ghost use Rattle.cgx_write_given.specs.Given.{dateBytes, styleOf, propertyKind};
 ghost use Rattle.cgx_write_given.specs.Typed.{Longs};
-ghost use Rattle.cgx_write_given.specs.Srefs.{widthIf, srefSize};
+ghost use Rattle.cgx_write_given.specs.Srefs.{srefSize};
 ghost use Rattle.cgx_write_given.specs.Writing.{firstWriter};
 use cgx_format_cursor::Cursor;
 use cgx_format_kinds::Boxes;
@@ -19,6 +19,7 @@ use cgx_format_kinds::Sref;
 use cgx_format_kinds::Struct;
 use cgx_format_kinds::Text;
 use cgx_format_kinds::Wire;
+use cgx_format_sref::sref_layout;
 use cgx_spec::Kind;
 use numbers::LONG_SIZE;
 use numbers::WordBytes;
@@ -184,15 +185,6 @@ pub fn wire_size(points: &[i32]) -> usize
 pub fn sref_size(flags: u8, name: &[u8]) -> usize
     ensures { λ r. ⌜ r ≡ srefSize flags (length (now (name .entry))) ⌝ }
 {
-    let angle = width_if(flags % 2 == 1, Sref::REAL_SIZE);
-    let magnif = width_if(flags / 2 % 2 == 1, Sref::REAL_SIZE);
-    let array = width_if(flags / 8 % 2 == 1, Sref::ARRAY_SIZE);
-    Sref::MIN_SIZE + angle + magnif + array + name.len() / 2 * 2
-}
-
-// The bytes of a field that is there only where its flag is set.
-fn width_if(set: bool, width: usize) -> usize
-    ensures { λ r. ⌜ (r ≡ widthIf set width) × (r ≤ width) ⌝ }
-{
-    if set { width } else { 0 }
+    let l = sref_layout(flags);
+    l.name + Sref::MIN_NAME + name.len() / 2 * 2
 }

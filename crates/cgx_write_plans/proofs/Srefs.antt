@@ -18,6 +18,8 @@ use Rattle.cgx_spec.specs.Records.{rule, broken}
 use Rattle.cgx_format_bodies.specs.Bodies.{numberOr0}
 use Rattle.cgx_format_fields.specs.Zeros.{noZero}
 use Rattle.cgx_format_kinds.specs.declared.Point.{Point}
+use Rattle.cgx_format_sref.specs.declared.SrefLayout.{SrefLayout}
+use Rattle.cgx_format_sref.specs.Layouts.{srefLayout}
 use Rattle.cgx_write_given.specs.declared.Grid.{Grid}
 use Rattle.cgx_write_given.specs.Given.{Item, eight, words, long, point, ifSet, enough, groups, goodItem, goodList, meets, keeping, pairwise, enoughGiven, keepsGiven, givenSref}
 use Rattle.cgx_write_plans.specs.Plans.{textFault, givenFault}
@@ -91,6 +93,13 @@ module _ (at : Point) (turn scale : List ℕ) (g : Grid) (t : List ℕ) where
 -- ---- as the code finds them
 
 module _ (fl : ℕ) (scale : List ℕ) (g : Grid) (t : List ℕ) where
+  -- by what the layout says of the flags
+  pub scaled-by : {l : SrefLayout} {b : Bool} → l ≡ srefLayout fl → b ≡ scaleGood (l .scaled) scale → scaleGood (magnif fl) scale ≡ b
+  scaled-by e h = sym (h ∙ ap (λ (l : SrefLayout). scaleGood (l .scaled) scale) e)
+
+  pub repeated-by : {l : SrefLayout} {b : Bool} → l ≡ srefLayout fl → b ≡ gridGood (l .repeated) g → gridGood (array fl) g ≡ b
+  repeated-by e h = sym (h ∙ ap (λ (l : SrefLayout). gridGood (l .repeated) g) e)
+
   pub sref-flags : 15 < fl → 7 ≡ srefFault fl scale g t
   unfolding srefFault
   sref-flags h = simp (lt-leb fl 15 h)

@@ -29,6 +29,7 @@ use cgx_format_kinds::Point;
 use cgx_format_kinds::Poly;
 use cgx_format_kinds::Sref;
 use cgx_format_kinds::Wire;
+use cgx_format_sref::sref_layout;
 use cgx_spec::Kind;
 use cgx_write_given::Answer;
 use cgx_write_given::EndStyle;
@@ -360,10 +361,11 @@ fn sref_fault(flags: u8, magnif: &[u8; 8], grid: Grid, name: &[u8]) -> u8
     if Sref::MAX_FLAGS < flags {
         return 7;
     }
-    if !magnif_good(flags / 2 % 2 == 1, magnif) {
+    let l = sref_layout(flags);
+    if !magnif_good(l.scaled, magnif) {
         return 10;
     }
-    if !grid_good(flags / 8 % 2 == 1, grid) {
+    if !grid_good(l.repeated, grid) {
         return 10;
     }
     text_fault(name)

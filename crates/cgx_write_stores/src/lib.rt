@@ -1,5 +1,6 @@
 // Stores of a planned record, in normal form. The caller shows that there is room.
 ghost use mathlib.Core.Path.{_≡_};
+ghost use mathlib.Core.Bool.{true};
 ghost use mathlib.Core.Option.{none, some};
 ghost use mathlib.Core.List.{[], _∷_, _++_};
 ghost use Prim.Native.Nat.{_+_, _*_, _/_, _%_, _≤_};
@@ -10,9 +11,10 @@ ghost use Rattle.cgx_spec.specs.Kinds.{flagsOf, typeFor};
 ghost use Rattle.cgx_spec.specs.Records.{bytesOf};
 ghost use Rattle.buffers.specs.Put.{put};
 ghost use Rattle.cgx_write_given.specs.Given.{dateBytes, written, givenLibrary, givenStruct, givenOwned, givenLayer, givenBox, givenPoly, givenWire, givenText, givenSref, givenEndlib};
-ghost use Rattle.cgx_write_given.specs.Srefs.{realIf, gridIf, widthIf, srefSize};
+ghost use Rattle.cgx_write_given.specs.Srefs.{realIf, gridIf, srefSize};
 ghost use Rattle.cgx_write_given.specs.Writing.{maxSize};
 use buffers::put_bytes;
+use buffers::put_each;
 use buffers::put_long;
 use buffers::put_longs;
 use buffers::put_short;
@@ -23,7 +25,7 @@ use cgx_format_kinds::Endlib;
 use cgx_format_kinds::Layer;
 use cgx_format_kinds::LayerNo;
 use cgx_format_kinds::Point;
-use cgx_format_kinds::Sref;
+use cgx_format_sref::sref_layout;
 use cgx_normal_copy::flags_meant;
 use cgx_spec::Kind;
 use cgx_write_given::EndStyle;
@@ -153,13 +155,14 @@ pub fn store_sref(
 {
     let x = origin.x;
     let y = origin.y;
+    let l = sref_layout(flags);
     put_header(buf, at, Kind::Sref, flags, sref_size(flags, name));
     put_long(buf, at + 4, x);
     put_long(buf, at + 8, y);
-    let magnif_at = put_real_if(buf, at + 12, flags % 2 == 1, angle);
-    let array_at = put_real_if(buf, magnif_at, flags / 2 % 2 == 1, magnif);
-    let name_at = put_grid_if(buf, array_at, flags / 8 % 2 == 1, grid);
-    put_text(buf, name_at, name);
+    put_real_if(buf, at + 12, l.turned, angle);
+    put_real_if(buf, at + l.magnif, l.scaled, magnif);
+    put_grid_if(buf, at + l.array, l.repeated, grid);
+    put_text(buf, at + l.name, name);
 }
 
 pub fn store_endlib(buf: &mut [u8], at: usize)
@@ -179,7 +182,7 @@ fn put_header(buf: &mut [u8], at: usize, k: Kind, flags: u8, size: usize)
     let high = (size / 256) as u8;
     let low = (size % 256) as u8;
     let header = [high, low, kind, meant];
-    put_bytes(buf, at, &header);
+    put_each(buf, at, &header);
 }
 
 fn type_byte(k: Kind) -> u8
@@ -226,23 +229,21 @@ fn put_date(buf: &mut [u8], at: usize, date: Date)
     put_bytes(buf, at, &bytes);
 }
 
-// ---- fields that are there only where their flag is set: each answers the offset after it
+// ---- fields that are there only where their flag is set
 
-fn put_real_if(buf: &mut [u8], at: usize, set: bool, real: &[u8; 8]) -> usize
-    requires { ⌜ at + widthIf set 8 ≤ length (now buf) ⌝ }
-    ensures { λ r. ⌜ (r ≡ at + widthIf set 8) × (now (buf .exit) ≡ put (now (buf .entry)) at (realIf set (now (real .entry)))) ⌝ }
+fn put_real_if(buf: &mut [u8], at: usize, set: bool, real: &[u8; 8])
+    requires { ⌜ (set ≡ true → at + 8 ≤ length (now buf)) ⌝ }
+    ensures { λ _. ⌜ now (buf .exit) ≡ put (now (buf .entry)) at (realIf set (now (real .entry))) ⌝ }
 {
     if set {
         let equal = normal_bytes(real);
         put_bytes(buf, at, &equal);
-        return at + Sref::REAL_SIZE;
     }
-    at
 }
 
-fn put_grid_if(buf: &mut [u8], at: usize, set: bool, grid: Grid) -> usize
-    requires { ⌜ at + widthIf set 24 ≤ length (now buf) ⌝ }
-    ensures { λ r. ⌜ (r ≡ at + widthIf set 24) × (now (buf .exit) ≡ put (now (buf .entry)) at (gridIf set grid)) ⌝ }
+fn put_grid_if(buf: &mut [u8], at: usize, set: bool, grid: Grid)
+    requires { ⌜ (set ≡ true → at + 24 ≤ length (now buf)) ⌝ }
+    ensures { λ _. ⌜ now (buf .exit) ≡ put (now (buf .entry)) at (gridIf set grid) ⌝ }
 {
     let cols = grid.cols;
     let rows = grid.rows;
@@ -251,7 +252,5 @@ fn put_grid_if(buf: &mut [u8], at: usize, set: bool, grid: Grid) -> usize
     if set {
         let longs = [cols, rows, across.x, across.y, up.x, up.y];
         put_longs(buf, at, &longs);
-        return at + Sref::ARRAY_SIZE;
     }
-    at
 }

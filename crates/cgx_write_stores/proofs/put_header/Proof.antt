@@ -19,11 +19,11 @@ cast-high c = search needs
 cast-low : tie.Need-cast-low
 cast-low c = search needs
 
-slice-aggregate-put-bytes : tie.Need-slice-aggregate-put-bytes
-slice-aggregate-put-bytes c = search needs
+slice-aggregate-put-each : tie.Need-slice-aggregate-put-each
+slice-aggregate-put-each c = search needs
 
-put-bytes-requires : tie.Need-put-bytes-requires
-put-bytes-requires c κs = search needs
+put-each-requires : tie.Need-put-each-requires
+put-each-requires c κs = search needs
 
 same-length : tie.Need-same-length
 same-length c = search needs
@@ -31,7 +31,7 @@ same-length c = search needs
 returns : tie.Need-returns
 returns c =
     let a = c .before .before .before .before .before .before .before .before .args in
-    c .before .before .put-bytes .ensures ∙ ap₂ (λ (k f : ℕ). put (a .buf .now) (a .at) (a .size / 256 ∷ a .size % 256 ∷ k ∷ f ∷ [])) (c .before .before .before .before .before .before .type-byte .ensures) (c .before .before .before .before .before .flags-meant .ensures)
+    c .before .before .put-each .ensures ∙ ap₂ (λ (k f : ℕ). put (a .buf .now) (a .at) (a .size / 256 ∷ a .size % 256 ∷ k ∷ f ∷ [])) (c .before .before .before .before .before .before .type-byte .ensures) (c .before .before .before .before .before .flags-meant .ensures)
 
 pub put-header-spec : {M : Type 1} → statement M
-put-header-spec = tie.close (tie.spec type-byte-requires flags-meant-requires cast-high cast-low slice-aggregate-put-bytes put-bytes-requires same-length returns)
+put-header-spec = tie.close (tie.spec type-byte-requires flags-meant-requires cast-high cast-low slice-aggregate-put-each put-each-requires same-length returns)
