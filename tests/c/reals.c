@@ -112,11 +112,13 @@ static bool has_parts(uint64_t word) {
 }
 
 void test_reals(void) {
+    cgx_real in_hand = {UNNAMED};
     size_t i;
     for (i = 0; i < sizeof normal_pairs / sizeof normal_pairs[0]; i++) {
         const pair *p = &normal_pairs[i];
         expect(is_double(p->word, p->value), p->name, "its double");
         expect(is_real(p->value, p->word), p->name, "the real of its double");
+        expect(cgx_real_of(p->value, &in_hand) == CGX_OK && in_hand.word == p->word, p->name, "the real of a double in hand");
         expect(has_parts(p->word), p->name, "its parts");
     }
     for (i = 0; i < sizeof doubles / sizeof doubles[0]; i++) {

@@ -17,6 +17,9 @@ void test_words(void) {
     }
     expect(strcmp(cgx_refusal_words(CGX_OK), "not refused") == 0 && strcmp(cgx_refusal_words(17), "not refused") == 0
             && strcmp(cgx_refusal_words(CGX_INEXACT), "not refused") == 0, "refusals", "other answers have none");
+    for (i = 1; i <= CGX_REFUSED_NO_SUCH; i++) expect(cgx_is_refused(i) != 0, "refusals", "are told from other answers");
+    for (i = CGX_DONE; i <= CGX_INEXACT; i++) expect(cgx_is_refused(i) == 0, "answers", "that are no refusals");
+    expect(cgx_is_refused(CGX_OK) == 0, "answers", "OK is no refusal");
     for (i = CGX_OK; i <= CGX_INEXACT; i++) {
         bool named = i <= CGX_REFUSED_NO_SUCH || i >= CGX_DONE;
         expect(was_seen(i) == named, "answers", "each that is named has been given, and no other");

@@ -317,6 +317,58 @@ static void longest_lists(void) {
     longest_list("8,190 and 8,191 points of a styled WIRE", styled, CGX_MAX_WIRE_POINTS, 2, "fff8 07 02 00000003", 0);
 }
 
+/* ---- a list that ends inside a box or a point: only the archive's own functions can be given one */
+
+typedef struct {
+    const char *name;
+    size_t group;
+    uint32_t (*make)(blob buf, cgx_writer *writer, uint64_t *at, const int32_t *longs, uint64_t long_count);
+} flat_call;
+
+static uint32_t flat_box(blob buf, cgx_writer *writer, uint64_t *at, const int32_t *longs, uint64_t long_count) {
+    return cgx_write_box_longs(buf.bytes, buf.size, writer, at, longs, long_count);
+}
+
+static uint32_t flat_poly(blob buf, cgx_writer *writer, uint64_t *at, const int32_t *longs, uint64_t long_count) {
+    return cgx_write_poly_longs(buf.bytes, buf.size, writer, at, longs, long_count);
+}
+
+static uint32_t flat_wire(blob buf, cgx_writer *writer, uint64_t *at, const int32_t *longs, uint64_t long_count) {
+    return cgx_write_wire_longs(buf.bytes, buf.size, writer, at, 3, longs, long_count);
+}
+
+static uint32_t flat_styled(blob buf, cgx_writer *writer, uint64_t *at, const int32_t *longs, uint64_t long_count) {
+    return cgx_write_styled_wire_longs(buf.bytes, buf.size, writer, at, CGX_END_ROUNDED, 3, longs, long_count);
+}
+
+static const flat_call flat_calls[] = {
+    {"BOX in longs", 4, flat_box}, {"POLY in longs", 2, flat_poly}, {"WIRE in longs", 2, flat_wire},
+    {"styled WIRE in longs", 2, flat_styled}};
+
+/* All longs are 0, so that a list of whole boxes or points is good where it has enough of them. */
+static void broken_list(const flat_call *f, size_t long_count) {
+    static const int32_t zeros[2 * CGX_MAX_POLY_POINTS];
+    const cgx_writer before = writer_in(IN_LAYER);
+    blob list = copy_of(zeros, 4 * long_count), buf = copy_of(zeros, sizeof zeros), old = copy_of(zeros, sizeof zeros);
+    cgx_writer writer = before;
+    uint64_t *at = lent_at();
+    told t = answered(f->make(buf, &writer, at, (const int32_t *)(const void *)list.bytes, long_count));
+    expect(t.number == CGX_REFUSED_LENGTH && t.at == before.place.at, f->name, "a list that ends inside one");
+    expect(SAME(&writer, &before) && same_bytes(buf, old), f->name, "nothing is written");
+    drop(old);
+    drop(buf);
+    drop(list);
+}
+
+static void broken_lists(void) {
+    static const size_t counts[] = {1, 3, 5, 7, 9, 4 * CGX_MAX_BOXES - 1};
+    size_t i, k;
+    for (i = 0; i < sizeof flat_calls / sizeof flat_calls[0]; i++) {
+        for (k = 0; k < sizeof counts / sizeof counts[0]; k++) broken_list(&flat_calls[i], counts[k]);
+        if (flat_calls[i].group == 4) broken_list(&flat_calls[i], 6);
+    }
+}
+
 /* ---- the start */
 
 static void starts(void) {
@@ -485,6 +537,7 @@ void test_writing(void) {
     no_forgery();
     longest_texts();
     longest_lists();
+    broken_lists();
     read_back();
     handed_on();
 }
