@@ -9,7 +9,7 @@ ghost use Rattle.cgx_spec.specs.Numbers.{shortBytes};
 ghost use Rattle.cgx_spec.specs.Reals.{normalReal};
 ghost use Rattle.cgx_spec.specs.Kinds.{flagsOf, typeFor};
 ghost use Rattle.cgx_spec.specs.Records.{bytesOf};
-ghost use Rattle.buffers.specs.Put.{put};
+ghost use Rattle.buffers.specs.Put.{put, longsBytes};
 ghost use Rattle.cgx_write_given.specs.Given.{dateBytes, written, givenLibrary, givenStruct, givenOwned, givenLayer, givenBox, givenPoly, givenWire, givenText, givenSref, givenEndlib};
 ghost use Rattle.cgx_write_given.specs.Srefs.{realIf, gridIf, srefSize};
 ghost use Rattle.cgx_write_given.specs.Writing.{maxSize};
@@ -19,6 +19,7 @@ use buffers::put_long;
 use buffers::put_longs;
 use buffers::put_short;
 use buffers::put_text;
+use cgx_format_kinds::Boxes;
 use cgx_format_kinds::DataType;
 use cgx_format_kinds::Date;
 use cgx_format_kinds::Endlib;
@@ -107,6 +108,10 @@ pub fn store_box(buf: &mut [u8], at: usize, sides: &[i32])
     ensures { λ _. ⌜ now (buf .exit) ≡ put (now (buf .entry)) at (bytesOf (written (givenBox (now (sides .entry))))) ⌝ }
 {
     put_header(buf, at, Kind::Box, 0, box_size(sides));
+    if sides.len() == Boxes::BOX_LONGS {
+        put_box(buf, at + 4, sides);
+        return;
+    }
     put_longs(buf, at + 4, sides);
 }
 
@@ -201,6 +206,21 @@ fn type_byte(k: Kind) -> u8
         Kind::Sref => 9,
         Kind::Endlib => 10,
     }
+}
+
+// One box, as most BOX records have: without a loop, which would cost as much as all else of the call.
+fn put_box(buf: &mut [u8], at: usize, sides: &[i32])
+    requires { ⌜ (at + 16 ≤ length (now buf)) × (length (now sides) ≡ 4) ⌝ }
+    ensures { λ _. ⌜ now (buf .exit) ≡ put (now (buf .entry)) at (longsBytes (now (sides .entry))) ⌝ }
+{
+    let left = sides[0];
+    let bottom = sides[1];
+    let right = sides[2];
+    let top = sides[3];
+    put_long(buf, at, left);
+    put_long(buf, at + 4, bottom);
+    put_long(buf, at + 8, right);
+    put_long(buf, at + 12, top);
 }
 
 // The two numbers of a LAYER, which come apart only here.
