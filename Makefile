@@ -1,7 +1,8 @@
 # The C library and what uses it.
 #
-#   make          build/libcgx.a and the example programs
+#   make          build/libcgx.a, the command build/cgx and the example programs
 #   make test     the tests in C; the last line is `N passed, M failed`
+#   make test-cmd the tests of the command; likewise
 #   make samples  the sample drawings and what `labels` prints of them, made anew under examples/
 #   make clean
 #
@@ -19,7 +20,7 @@ TESTS := build/test build/test-sanitized build/labels-sanitized build/vectors bu
 SUITE := $(wildcard tests/c/*.c)
 SUITE_HEADERS := $(wildcard tests/c/*.h) include/cgx.h
 
-all: build/libcgx.a $(EXAMPLES)
+all: build/libcgx.a build/cgx $(EXAMPLES)
 
 $(ARCHIVE): $(SOURCES)
 	rt staticlib cgx_c
@@ -30,6 +31,19 @@ build/libcgx.a: $(ARCHIVE)
 	cp $< $@
 
 build/%: examples/%.c include/cgx.h build/libcgx.a
+	$(CC) $(STRICT) $(CFLAGS) $(CPPFLAGS) -Iinclude $< build/libcgx.a $(LDFLAGS) -o $@
+
+# The command: every file of cmd/.
+COMMAND := $(wildcard cmd/*.c)
+COMMAND_HEADERS := $(wildcard cmd/*.h) include/cgx.h
+
+build/cgx: $(COMMAND) $(COMMAND_HEADERS) build/libcgx.a
+	$(CC) $(STRICT) $(CFLAGS) $(CPPFLAGS) -Iinclude $(COMMAND) build/libcgx.a $(LDFLAGS) -o $@
+
+build/cgx-sanitized: $(COMMAND) $(COMMAND_HEADERS) build/libcgx.a
+	$(CC) $(STRICT) $(SANITIZE) $(CPPFLAGS) -Iinclude $(COMMAND) build/libcgx.a -o $@
+
+build/cmd-%: tests/cmd/%.c include/cgx.h build/libcgx.a
 	$(CC) $(STRICT) $(CFLAGS) $(CPPFLAGS) -Iinclude $< build/libcgx.a $(LDFLAGS) -o $@
 
 build/labels-sanitized: examples/labels.c include/cgx.h build/libcgx.a
@@ -54,6 +68,9 @@ build/stack: tests/c/programs/stack.c include/cgx.h build/libcgx.a
 test: all $(TESTS)
 	bash tests/c/run
 
+test-cmd: build/cgx build/cgx-sanitized build/cmd-mixed build/cmd-files build/cmd-terminal
+	bash tests/cmd/run
+
 samples: $(EXAMPLES)
 	mkdir -p examples/drawings
 	build/samples examples/drawings
@@ -64,5 +81,5 @@ samples: $(EXAMPLES)
 clean:
 	rm -rf build
 
-.PHONY: all test samples clean
+.PHONY: all test test-cmd samples clean
 .DELETE_ON_ERROR:
