@@ -81,7 +81,7 @@ void flush_output(void);
 /* Writes all of it, past what was put. false, and errno, where it cannot. */
 bool write_all(int to, const uint8_t *bytes, uint64_t len);
 
-/* A message on standard error: `cgx: ABOUT: WORDS`, ABOUT escaped. */
+/* A message on standard error: `cgx: ABOUT: WORDS`, ABOUT escaped; only the words where ABOUT is "". */
 void complain(const char *about, const char *words);
 
 /* "refused N at P: WORDS", in memory that the next call overwrites. */

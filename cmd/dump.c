@@ -1,4 +1,4 @@
-/* cgx dump: every field of every record as text. docs/DUMP.md says what its lines are. */
+/* cgx dump: every field of every record as text. cgx.1 says what its lines are. */
 #include "command.h"
 
 #include <inttypes.h>

@@ -121,7 +121,7 @@ int main(int argc, char **argv) {
     const word *w = word_named(first);
     status result = ACCEPTED;
     keep_standard_descriptors();
-    if (!cgx_version_fits()) usage_trouble(NULL, "cgx", "the library is of another version");
+    if (!cgx_version_fits()) usage_trouble(NULL, "", "the library is of another version");
     if (w != NULL)
         result = word_main(w, argc - 2, argv + 2);
     else if (strcmp(first, "--help") == 0 || strcmp(first, "-h") == 0)
@@ -129,7 +129,7 @@ int main(int argc, char **argv) {
     else if (strcmp(first, "--version") == 0)
         version();
     else
-        usage_trouble(NULL, argc > 1 ? first : "cgx", argc > 1 ? "no such word" : "no word is given");
+        usage_trouble(NULL, first, argc > 1 ? "no such word" : "no word is given");
     flush_output();
     return result;
 }

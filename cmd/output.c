@@ -84,7 +84,7 @@ void complain(const char *about, const char *words) {
     char *line = allocate(NULL, room);
     end_progress();
     flush_output();
-    snprintf(line, room, "cgx: %s: %s\n", name, words);
+    snprintf(line, room, "cgx: %s%s%s\n", name, name[0] != 0 ? ": " : "", words);
     if (write(STDERR_FILENO, line, strlen(line)) < 0) { /* there is nobody left to tell */
     }
     free(line);
