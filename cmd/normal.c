@@ -27,7 +27,7 @@ static void on_interruption(void (*handler)(int)) {
     signal(SIGXFSZ, SIG_IGN); /* a file too large is then an error of write */
 }
 
-/* Makes it in the folder of `out`: rename does not go from one disk to another. */
+/* Makes it in the folder of `out`, since rename does not go from one disk to another. */
 static int make_temporary(const char *out) {
     static const char name[] = ".cgx-XXXXXX";
     const char *slash = strrchr(out, '/');
@@ -35,6 +35,7 @@ static int make_temporary(const char *out) {
     temporary = allocate(NULL, folder + sizeof name);
     memcpy(temporary, out, folder);
     memcpy(temporary + folder, name, sizeof name);
+    on_interruption(interrupted);
     return mkstemp(temporary);
 }
 
@@ -63,20 +64,10 @@ static bool write_pieces(int to, const uint8_t *bytes, uint64_t len) {
 /* Whether the bytes are now all in `out`; else there is no trace of them, and errno says why. */
 static bool replace(const char *out, const struct stat *old, const uint8_t *bytes, uint64_t len) {
     int to = make_temporary(out), why;
-    bool good;
-    if (to < 0) return false;
-    on_interruption(interrupted);
-    good = write_pieces(to, bytes, len) && fchmod(to, mode_for(old)) == 0 && fsync(to) == 0;
+    bool good = to >= 0 && write_pieces(to, bytes, len) && fchmod(to, mode_for(old)) == 0 && fsync(to) == 0;
+    good = good && close(to) == 0 && rename(temporary, out) == 0;
     why = errno;
-    if (close(to) != 0 && good) {
-        good = false;
-        why = errno;
-    }
-    if (good && rename(temporary, out) != 0) {
-        good = false;
-        why = errno;
-    }
-    if (!good) unlink(temporary);
+    if (to >= 0 && !good) unlink(temporary);
     on_interruption(SIG_DFL);
     errno = why;
     return good;

@@ -1,5 +1,5 @@
-/* Writes a good drawing of about so many bytes to standard output: records of all kinds and sizes, unknown ones among them, as in the
-   benchmark's mixed file. The same number gives the same bytes. */
+/* Writes a good drawing of about so many bytes to standard output: records of all kinds and sizes, unknown ones among them,
+   as in the benchmark's mixed file. The same number gives the same bytes. */
 #include <stdint.h>
 #include <stdio.h>
 #include <stdlib.h>
@@ -63,7 +63,8 @@ static void end(void) {
 /* ---- records */
 
 static const uint8_t dates[16] = {7, 233, 2, 6, 14, 9, 45, 0, 7, 233, 2, 6, 14, 33, 0, 0};
-static const uint8_t units[16] = {0x3e, 0x41, 0x89, 0x37, 0x4b, 0xc6, 0xa7, 0xf0, 0x39, 0x44, 0xb8, 0x2f, 0xa0, 0x9b, 0x5a, 0x54};
+static const uint8_t units[16] = {
+    0x3e, 0x41, 0x89, 0x37, 0x4b, 0xc6, 0xa7, 0xf0, 0x39, 0x44, 0xb8, 0x2f, 0xa0, 0x9b, 0x5a, 0x54};
 
 static void opening(void) {
     begin(0, 1);
@@ -165,6 +166,8 @@ int main(int argc, char **argv) {
         fputs("usage: mixed BYTES\n", stderr);
         return 2;
     }
+    /* In small pieces the kernel would keep the file in single pages, which are slow to map. */
+    setvbuf(stdout, NULL, _IOFBF, 1 << 20);
     fwrite("cgx", 1, 4, stdout);
     opening();
     while (written < wanted) any();
