@@ -161,13 +161,14 @@ static void any(void) {
 }
 
 int main(int argc, char **argv) {
+    static char pieces[1 << 20];
     uint64_t wanted = argc == 2 ? strtoull(argv[1], NULL, 10) : 0;
     if (wanted == 0) {
         fputs("usage: mixed BYTES\n", stderr);
         return 2;
     }
     /* In small pieces the kernel would keep the file in single pages, which are slow to map. */
-    setvbuf(stdout, NULL, _IOFBF, 1 << 20);
+    setvbuf(stdout, pieces, _IOFBF, sizeof pieces);
     fwrite("cgx", 1, 4, stdout);
     opening();
     while (written < wanted) any();
