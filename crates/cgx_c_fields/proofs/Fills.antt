@@ -2,7 +2,8 @@
 use mathlib.Core.Path.{_≡_, refl, sym, ap, _∙_, subst}
 use mathlib.Core.List.{List, _∷_, _++_}
 use mathlib.Core.Bool.{Bool, true, false, cond}
-use Prim.Native.Nat.{ℕ, _+_, _-_}
+use Prim.Native.Nat.{ℕ, _+_, _-_, _<_}
+use native.Mathlib.Omega.{arith}
 use lib.ListN.{take, drop}
 use lib.IntN.{ℤ}
 use Rattle.cgx_spec.specs.declared.Kind.{Kind}
@@ -13,7 +14,11 @@ use Rattle.cgx_format_kinds.specs.declared.Fields.the-variants as fields
 use Rattle.buffers.specs.Put.{put}
 use Rattle.buffers.proofs.Puts.{put-nil}
 use Rattle.cgx_spec.specs.Numbers.{longOf}
-use Rattle.cgx_spec.specs.Fields.{date, string, value}
+use Rattle.cgx_spec.specs.Fields.{date, string, value, pieces, lengthsFit, keeps}
+use Rattle.cgx_spec.specs.Kinds.{layout}
+use Rattle.cgx_spec.specs.Records.{Rule, rule, broken}
+use Rattle.cgx_spec.specs.Walking.{Held, recAt}
+use Rattle.cgx_format_bodies.specs.Bodies.{numberOr0, bodyFault}
 use Rattle.cgx_format_kinds.specs.declared.Date.{Date}
 use Rattle.cgx_format_kinds.specs.declared.Point.{Point}
 use Rattle.cgx_format_kinds.specs.declared.OptionalReal.{OptionalReal}
@@ -22,30 +27,59 @@ use Rattle.cgx_format_kinds.specs.declared.Array.{Array}
 use Rattle.cgx_format_kinds.specs.Meant.{spanText, dateNumbers, optionalValue}
 use Rattle.cgx_format_sref.specs.declared.SrefLayout.{SrefLayout}
 use Rattle.cgx_format_sref.specs.Layouts.{srefLayout}
-use Rattle.cgx_read_fields.specs.Views.{ReadAt, TextAt, StringAt, wordAt, realAt, AnswerAt, realIf, ArrayIs}
+use Rattle.cgx_read_fields.specs.Views.{Readable, ReadAt, TextAt, StringAt, wordAt, realAt, AnswerAt, realIf, ArrayIs}
 use Rattle.cgx_read_fields.proofs.Parts.{real-value}
 use Rattle.cgx_read_fields.proofs.Ready.{endlib-read}
 use Rattle.cgx_read_fields.proofs.Libraries.{library-by}
 use Rattle.cgx_read_fields.proofs.Srefs.{Room, sref-by}
 use Rattle.cgx_c_views.specs.ViewWords.{longBits, pointWord, dateWord, spanWords, arrayWords, optionalWord, fieldWords}
-use Rattle.cgx_c_fields.specs.Fill.{Filled, FilledAlike}
+use Rattle.cgx_c_fields.specs.Fill.{Filled, FilledAlike, FilledIf}
 
 module _ {k j : Kind} {fl : ℕ} {f : List ℕ} {at size : ℕ} {w₀ w₁ : List ℕ} (e : k ≡ j) (fs : Fields) where
   pub filled : ReadAt j fl f at size fs → w₁ ≡ put w₀ 6 (fieldWords f fl at fs) → Filled k fl f at size w₀ w₁
   filled r q = record { fields = fs; read = subst (λ (x : Kind). ReadAt x fl f at size fs) (sym e) r; words = q }
 
 -- those of a kind that is told
-pub filled-as : {k j : Kind} {fl : ℕ} {f : List ℕ} {at size : ℕ} {w₀ w₁ : List ℕ} → k ≡ j → Filled j fl f at size w₀ w₁ → Filled k fl f at size w₀ w₁
-filled-as e d = filled e (d .fields) (d .read) (d .words)
+pub told-if : {k j : Kind} {fl : ℕ} {f : List ℕ} {at size r : ℕ} {w₀ w₁ : List ℕ} → k ≡ j → FilledIf j fl f at size r w₀ w₁ → FilledIf k fl f at size r w₀ w₁
+told-if {fl = fl} {f = f} {at = at} {size = size} {r = r} {w₀ = w₀} {w₁ = w₁} e d = subst (λ (x : Kind). FilledIf x fl f at size r w₀ w₁) (sym e) d
+
+-- ---- a body that is judged
+
+-- a rule that is not the first one broken is kept
+rule-kept : (n : ℕ) (b : Bool) (rs : List Rule) → 0 < n → numberOr0 (broken (rule n b ∷ rs)) ≡ 0 → (b ≡ true) × (numberOr0 (broken rs) ≡ 0)
+unfolding broken
+rule-kept n true rs l e = (refl, e)
+rule-kept n false rs l e = absurd (omega arith)
+
+module _ (k : Kind) (fl : ℕ) {f : List ℕ} {at size : ℕ} (h : Held f at size) {r : ℕ} (e : r ≡ bodyFault k fl (take (at + size - (at + 4)) (drop (at + 4) f))) where
+  pub fault-is : r ≡ bodyFault k fl (recAt f at size .body)
+  unfolding recAt
+  fault-is = let l = h .least in let q : at + size - (at + 4) ≡ size - 4 = omega arith in e ∙ ap (λ (n : ℕ). bodyFault k fl (take n (drop (at + 4) f))) q
+
+  pub unfilled : (w : List ℕ) → (r ≡ 0 → ⊥) → FilledIf k fl f at size r w w
+  unfilled w z = record { fault = fault-is; filled = λ q. absurd (z q); kept = λ q. refl }
+
+  -- a body that breaks no rule is readable
+  pub readable : r ≡ 0 → Readable k fl f at size
+  unfolding bodyFault
+  readable z =
+      let ps = pieces (layout k fl) (recAt f at size .body) in
+      let e₈ = rule-kept 8 (lengthsFit ps) _ (omega arith) (sym fault-is ∙ z) in
+      let e₁₁ = rule-kept 11 (keeps 11 ps) _ (omega arith) (rule-kept 10 (keeps 10 ps) _ (omega arith) (rule-kept 9 (keeps 9 ps) _ (omega arith) (e₈ .1) .1) .1) in
+      record { held = h; fits = e₈ .0; texts = e₁₁ .0 }
+
+  pub filled-if : {w₀ w₁ : List ℕ} → r ≡ 0 → Filled k fl f at size w₀ w₁ → FilledIf k fl f at size 0 w₀ w₁
+  filled-if z d = record { fault = sym z ∙ fault-is; filled = λ q. d; kept = λ q. absurd (q refl) }
 
 -- a number that is handed on is the number
 pub numbered : (w₀ : List ℕ) {w₁ : List ℕ} {x y : ℤ} (s : TextSpan) → x ≡ y → w₁ ≡ put w₀ 6 (longBits x ∷ spanWords s) → w₁ ≡ put w₀ 6 (longBits y ∷ spanWords s)
 numbered w₀ s e q = q ∙ ap (λ (z : ℤ). put w₀ 6 (longBits z ∷ spanWords s)) e
 
 -- nothing is stored of an ENDLIB
-pub none-filled : {k : Kind} (fl : ℕ) (f : List ℕ) (at size : ℕ) (w : List ℕ) → k ≡ kinds.Endlib → Filled k fl f at size w w
+pub none-filled : (fl : ℕ) (f : List ℕ) (at size r : ℕ) (w : List ℕ) → r ≡ bodyFault kinds.Endlib fl (recAt f at size .body) → FilledIf kinds.Endlib fl f at size r w w
 unfolding fieldWords
-none-filled fl f at size w e = filled e fields.Endlib (endlib-read fl f at size) (sym (put-nil w 6))
+none-filled fl f at size r w e =
+    record { fault = e; filled = λ q. filled refl fields.Endlib (endlib-read fl f at size) (sym (put-nil w 6)); kept = λ q. refl }
 
 -- ---- the two kinds with reals, which are the answers of the words that are stored
 

@@ -1,4 +1,4 @@
-// The fields of a record, stored in a C caller's view as they are read: a value that holds those of any kind would be copied at each step.
+// The fields of a record, judged and stored in a C caller's view as they are read: a value that holds those of any kind would be copied at each step.
 use cgx_c_views::ViewWords;
 use cgx_c_views::put_layer;
 use cgx_c_views::put_library;
@@ -8,6 +8,13 @@ use cgx_c_views::put_sref;
 use cgx_c_views::put_struct;
 use cgx_c_views::put_text;
 use cgx_c_views::put_wire;
+use cgx_format_bodies::box_fault;
+use cgx_format_bodies::layer_fault;
+use cgx_format_bodies::poly_fault;
+use cgx_format_bodies::property_fault;
+use cgx_format_bodies::text_fault;
+use cgx_format_bodies::wire_fault;
+use cgx_format_records::body_fault;
 use cgx_format_sref::sref_layout;
 use cgx_read_fields::array_if;
 use cgx_read_fields::box_of;
@@ -24,52 +31,199 @@ use cgx_read_fields::wire_of;
 use cgx_read_fields::word_at;
 use cgx_read_fields::word_if;
 use cgx_spec::Kind;
+ghost use mathlib.Core.Path.{_≡_};
 ghost use Prim.Native.Nat.{_+_, _-_};
+ghost use Rattle.cgx_spec.specs.Walking.{Held, recAt};
+ghost use Rattle.cgx_format_bodies.specs.Bodies.{bodyFault};
 ghost use Rattle.cgx_format_sref.specs.Layouts.{srefLayout};
-ghost use Rattle.cgx_read_fields.specs.Views.{Readable, StringAt};
-ghost use Rattle.cgx_c_fields.specs.Fill.{Filled, FilledAlike};
+ghost use Rattle.cgx_read_fields.specs.Views.{StringAt};
+ghost use Rattle.cgx_c_fields.specs.Fill.{Filled, FilledAlike, FilledIf};
 
-// Of the record of `size` bytes at `at`, of this kind and with these flags.
-pub fn fill_fields(f: &[u8], w: &mut ViewWords, k: Kind, fl: u8, at: usize, size: usize)
-    requires { ⌜ Readable k fl (now f) at size ⌝ }
-    ensures { λ _. ⌜ Filled k fl (now (f .entry)) at size (now (w .entry)) (now (w .exit)) ⌝ }
+// Of the record of `size` bytes at `at`, of this kind and with these flags: the first of the rules 8 to 12 that its body breaks, or 0.
+pub fn fill_fields(f: &[u8], w: &mut ViewWords, k: Kind, fl: u8, at: usize, size: usize) -> u8
+    requires { ⌜ Held (now f) at size ⌝ }
+    ensures { λ r. ⌜ FilledIf k fl (now (f .entry)) at size r (now (w .entry)) (now (w .exit)) ⌝ }
 {
     match k {
-        Kind::Library => fill_library(f, w, at, size),
-        Kind::Struct => put_struct(w, struct_of(f, at, size)),
-        Kind::Cprpty => {
-            let p = cprpty_of(f, at, size);
-            let number = p.number;
-            let value = p.value;
-            put_property(w, number, value);
-        }
-        Kind::Property => {
-            let p = property_of(f, at, size);
-            let number = p.number;
-            let value = p.value;
-            put_property(w, number, value);
-        }
-        Kind::Layer => put_layer(w, layer_of(f, at, size)),
-        Kind::Box => {
-            let b = box_of(f, at, size);
-            let boxes = b.boxes;
-            put_list(w, 6, boxes);
-        }
-        Kind::Poly => {
-            let p = poly_of(f, at, size);
-            let points = p.points;
-            put_list(w, 6, points);
-        }
-        Kind::Wire => put_wire(w, wire_of(f, at, size)),
-        Kind::Text => put_text(w, text_of(f, at, size)),
+        Kind::Library => fill_library(f, w, fl, at, size),
+        Kind::Struct => fill_struct(f, w, fl, at, size),
+        Kind::Cprpty => fill_cprpty(f, w, fl, at, size),
+        Kind::Property => fill_property(f, w, fl, at, size),
+        Kind::Layer => fill_layer(f, w, fl, at, size),
+        Kind::Box => fill_box(f, w, fl, at, size),
+        Kind::Poly => fill_poly(f, w, fl, at, size),
+        Kind::Wire => fill_wire(f, w, fl, at, size),
+        Kind::Text => fill_text(f, w, fl, at, size),
         Kind::Sref => fill_sref(f, w, fl, at, size),
-        Kind::Endlib => {}
+        Kind::Endlib => fill_endlib(f, fl, at, size),
     }
 }
 
-// The two kinds with reals: their words are stored, and no double is made.
+// ---- a kind each: the rules, then the stores. The rules of the kinds that files are full of are compiled in here; `body_fault`, which the check calls too, is a call.
 
-fn fill_library(f: &[u8], w: &mut ViewWords, at: usize, size: usize)
+fn fill_library(f: &[u8], w: &mut ViewWords, fl: u8, at: usize, size: usize) -> u8
+    requires { ⌜ Held (now f) at size ⌝ }
+    ensures { λ r. ⌜ FilledIf Kind.Library fl (now (f .entry)) at size r (now (w .entry)) (now (w .exit)) ⌝ }
+{
+    let from = at + Kind::HEADER_SIZE;
+    let to = at + size;
+    let fault = body_fault(Kind::Library, fl, &f[from..to]);
+    if fault != 0 {
+        return fault;
+    }
+    store_library(f, w, at, size);
+    0
+}
+
+fn fill_struct(f: &[u8], w: &mut ViewWords, fl: u8, at: usize, size: usize) -> u8
+    requires { ⌜ Held (now f) at size ⌝ }
+    ensures { λ r. ⌜ FilledIf Kind.Struct fl (now (f .entry)) at size r (now (w .entry)) (now (w .exit)) ⌝ }
+{
+    let from = at + Kind::HEADER_SIZE;
+    let to = at + size;
+    let fault = body_fault(Kind::Struct, fl, &f[from..to]);
+    if fault != 0 {
+        return fault;
+    }
+    put_struct(w, struct_of(f, at, size));
+    0
+}
+
+fn fill_cprpty(f: &[u8], w: &mut ViewWords, fl: u8, at: usize, size: usize) -> u8
+    requires { ⌜ Held (now f) at size ⌝ }
+    ensures { λ r. ⌜ FilledIf Kind.Cprpty fl (now (f .entry)) at size r (now (w .entry)) (now (w .exit)) ⌝ }
+{
+    let from = at + Kind::HEADER_SIZE;
+    let to = at + size;
+    let fault = body_fault(Kind::Cprpty, fl, &f[from..to]);
+    if fault != 0 {
+        return fault;
+    }
+    let p = cprpty_of(f, at, size);
+    let number = p.number;
+    let value = p.value;
+    put_property(w, number, value);
+    0
+}
+
+fn fill_property(f: &[u8], w: &mut ViewWords, fl: u8, at: usize, size: usize) -> u8
+    requires { ⌜ Held (now f) at size ⌝ }
+    ensures { λ r. ⌜ FilledIf Kind.Property fl (now (f .entry)) at size r (now (w .entry)) (now (w .exit)) ⌝ }
+{
+    let from = at + Kind::HEADER_SIZE;
+    let to = at + size;
+    let fault = property_fault(&f[from..to], fl);
+    if fault != 0 {
+        return fault;
+    }
+    let p = property_of(f, at, size);
+    let number = p.number;
+    let value = p.value;
+    put_property(w, number, value);
+    0
+}
+
+fn fill_layer(f: &[u8], w: &mut ViewWords, fl: u8, at: usize, size: usize) -> u8
+    requires { ⌜ Held (now f) at size ⌝ }
+    ensures { λ r. ⌜ FilledIf Kind.Layer fl (now (f .entry)) at size r (now (w .entry)) (now (w .exit)) ⌝ }
+{
+    let from = at + Kind::HEADER_SIZE;
+    let to = at + size;
+    let fault = layer_fault(&f[from..to], fl);
+    if fault != 0 {
+        return fault;
+    }
+    put_layer(w, layer_of(f, at, size));
+    0
+}
+
+fn fill_box(f: &[u8], w: &mut ViewWords, fl: u8, at: usize, size: usize) -> u8
+    requires { ⌜ Held (now f) at size ⌝ }
+    ensures { λ r. ⌜ FilledIf Kind.Box fl (now (f .entry)) at size r (now (w .entry)) (now (w .exit)) ⌝ }
+{
+    let from = at + Kind::HEADER_SIZE;
+    let to = at + size;
+    let fault = box_fault(&f[from..to], fl);
+    if fault != 0 {
+        return fault;
+    }
+    let b = box_of(f, at, size);
+    let boxes = b.boxes;
+    put_list(w, 6, boxes);
+    0
+}
+
+fn fill_poly(f: &[u8], w: &mut ViewWords, fl: u8, at: usize, size: usize) -> u8
+    requires { ⌜ Held (now f) at size ⌝ }
+    ensures { λ r. ⌜ FilledIf Kind.Poly fl (now (f .entry)) at size r (now (w .entry)) (now (w .exit)) ⌝ }
+{
+    let from = at + Kind::HEADER_SIZE;
+    let to = at + size;
+    let fault = poly_fault(&f[from..to], fl);
+    if fault != 0 {
+        return fault;
+    }
+    let p = poly_of(f, at, size);
+    let points = p.points;
+    put_list(w, 6, points);
+    0
+}
+
+fn fill_wire(f: &[u8], w: &mut ViewWords, fl: u8, at: usize, size: usize) -> u8
+    requires { ⌜ Held (now f) at size ⌝ }
+    ensures { λ r. ⌜ FilledIf Kind.Wire fl (now (f .entry)) at size r (now (w .entry)) (now (w .exit)) ⌝ }
+{
+    let from = at + Kind::HEADER_SIZE;
+    let to = at + size;
+    let fault = wire_fault(&f[from..to], fl);
+    if fault != 0 {
+        return fault;
+    }
+    put_wire(w, wire_of(f, at, size));
+    0
+}
+
+fn fill_text(f: &[u8], w: &mut ViewWords, fl: u8, at: usize, size: usize) -> u8
+    requires { ⌜ Held (now f) at size ⌝ }
+    ensures { λ r. ⌜ FilledIf Kind.Text fl (now (f .entry)) at size r (now (w .entry)) (now (w .exit)) ⌝ }
+{
+    let from = at + Kind::HEADER_SIZE;
+    let to = at + size;
+    let fault = text_fault(&f[from..to], fl);
+    if fault != 0 {
+        return fault;
+    }
+    put_text(w, text_of(f, at, size));
+    0
+}
+
+fn fill_sref(f: &[u8], w: &mut ViewWords, fl: u8, at: usize, size: usize) -> u8
+    requires { ⌜ Held (now f) at size ⌝ }
+    ensures { λ r. ⌜ FilledIf Kind.Sref fl (now (f .entry)) at size r (now (w .entry)) (now (w .exit)) ⌝ }
+{
+    let from = at + Kind::HEADER_SIZE;
+    let to = at + size;
+    let fault = body_fault(Kind::Sref, fl, &f[from..to]);
+    if fault != 0 {
+        return fault;
+    }
+    store_sref(f, w, fl, at, size);
+    0
+}
+
+// Nothing is stored.
+fn fill_endlib(f: &[u8], fl: u8, at: usize, size: usize) -> u8
+    requires { ⌜ Held (now f) at size ⌝ }
+    ensures { λ r. ⌜ r ≡ bodyFault Kind.Endlib fl (recAt (now (f .entry)) at size .body) ⌝ }
+{
+    let from = at + Kind::HEADER_SIZE;
+    let to = at + size;
+    body_fault(Kind::Endlib, fl, &f[from..to])
+}
+
+// ---- the two kinds with reals: their words are stored, and no double is made
+
+fn store_library(f: &[u8], w: &mut ViewWords, at: usize, size: usize)
     requires { ⌜ StringAt (now f) (at + 36) (size - 36) ⌝ }
     ensures { λ _. ⌜ FilledAlike Kind.Library (now (f .entry)) at size (now (w .entry)) (now (w .exit)) ⌝ }
 {
@@ -81,7 +235,7 @@ fn fill_library(f: &[u8], w: &mut ViewWords, at: usize, size: usize)
     put_library(w, munit, uunit, created, modified, name);
 }
 
-fn fill_sref(f: &[u8], w: &mut ViewWords, fl: u8, at: usize, size: usize)
+fn store_sref(f: &[u8], w: &mut ViewWords, fl: u8, at: usize, size: usize)
     requires { ⌜ StringAt (now f) (at + srefLayout fl .name) (size - srefLayout fl .name) ⌝ }
     ensures { λ _. ⌜ Filled Kind.Sref fl (now (f .entry)) at size (now (w .entry)) (now (w .exit)) ⌝ }
 {

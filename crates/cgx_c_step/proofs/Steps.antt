@@ -2,13 +2,20 @@
 use mathlib.Core.Path.{_≡_, refl, sym, ap, _∙_, subst}
 use mathlib.Core.List.{List}
 use mathlib.Core.Option.{some}
-use Prim.Native.Nat.{ℕ, _+_}
+use mathlib.Core.Bool.{Bool, true, false}
+use Prim.Native.Nat.{ℕ, _+_, _-_}
+use native.Mathlib.Omega.{arith}
+use lib.ListN.{take, drop}
 use Rattle.cgx_spec.specs.declared.Kind.{Kind}
 use Rattle.cgx_spec.specs.declared.Offset.the-variants.{Nowhere, At}
 use Rattle.cgx_spec.specs.declared.Verdict.{Verdict}
 use Rattle.cgx_spec.specs.declared.Verdict.the-variants.{Accepted, Refused as NotAccepted}
-use Rattle.cgx_spec.specs.Order.{next}
-use Rattle.cgx_spec.specs.Walking.{ending}
+use Rattle.cgx_spec.specs.Kinds.{goodFlags}
+use Rattle.cgx_spec.specs.Order.{allowed, next}
+use Rattle.cgx_spec.specs.Walking.{ending, recAt}
+use Rattle.cgx_format_bodies.specs.Bodies.{bodyFault}
+use Rattle.cgx_format_records.specs.Faults.{FaultIs}
+use Rattle.cgx_format_records.proofs.Rules.{first-6, flags-7, body-8}
 use Rattle.cgx_format_kinds.specs.declared.View.{View}
 use Rattle.cgx_format_cursor.specs.declared.State.{State}
 use Rattle.cgx_format_cursor.specs.declared.Cursor.{Cursor}
@@ -18,40 +25,76 @@ use Rattle.cgx_read_fields.proofs.Ready.{read-as}
 use Rattle.cgx_read_walk.specs.declared.Outcome.the-variants.{Record, Done, Refused}
 use Rattle.cgx_read_walk.specs.declared.Sought.{Sought}
 use Rattle.cgx_read_walk.specs.declared.Sought.the-variants.{Forged, Ended, Known}
-use Rattle.cgx_read_walk.specs.Walk.{answerMeant, StepMade, SoughtIs, Met}
+use Rattle.cgx_read_walk.specs.Walk.{answerMeant, StepMade, Reached, SoughtIs}
 use Rattle.cgx_read_views.specs.RecordViews.{takenBy}
-use Rattle.cgx_read_walk.proofs.Answers.{sought-forged, sought-ended, sought-made, moved, known-made}
+use Rattle.cgx_read_walk.proofs.Answers.{sought-forged, sought-ended, sought-known, sought-made, met, judged-kept, broken-made, moved, known-made}
 use Rattle.cgx_read_views.proofs.Views.{readable, view-is}
 use Rattle.cgx_c_places.specs.Words.{cursorWords, cursorIn}
 use Rattle.cgx_c_places.proofs.Places.{cursor-back}
-use Rattle.cgx_c_views.specs.ViewWords.{headWords, viewWords}
+use Rattle.cgx_c_views.specs.ViewWords.{headWords}
 use Rattle.cgx_c_views.proofs.Stored.{view-stored}
-use Rattle.cgx_c_fields.specs.Fill.{Filled}
-use Rattle.cgx_c_step.specs.Lent.{answerAt, offsetAt, StepLent, RecordLent}
+use Rattle.cgx_c_fields.specs.Fill.{FilledIf}
+use Rattle.cgx_c_step.specs.Lent.{answerAt, offsetAt, StepLent, RecordIf}
 
 -- ---- a record
 
-pub record-lent : (f : List ℕ) (s : State) (at n : ℕ) (k : Kind) (fl : ℕ) (after : State) (count : ℕ) (v₀ v₁ v₂ p₁ : List ℕ) → Met f s at n k fl → after ≡ stateOf (next (contextIn s) at (some k)) → count ≡ takenBy k (s .count)
-    → v₁ ≡ put v₀ 0 (headWords k fl at (offsetIn (after .cell)) (offsetIn (after .layer)) (runIn (s .first) count)) → Filled k fl f at n v₁ v₂ → p₁ ≡ cursorWords (record { at = at + n; state = after })
-    → RecordLent f s at n k fl p₁ v₀ v₂
-record-lent f s at n k fl after count v₀ v₁ v₂ p₁ m qa qc qh d qp =
-    let w = moved s at k (m .low) qa in
-    let r = read-as (readable (m .found)) refl (d .read) in
-    let v : View = record { kind = k; flags = fl; fields = d .fields; at = at; cell = offsetIn (after .cell); layer = offsetIn (after .layer); run = runIn (s .first) count } in
-    record {
-      view = v;
-      viewed =
+module _ (f : List ℕ) (s : State) (at n : ℕ) (k : Kind) (fl : ℕ) where
+  abbrev body : List ℕ
+  body = take (at + n - (at + 4)) (drop (at + 4) f)
+
+  abbrev here : Bool
+  here = allowed (contextIn s) (some k)
+
+  -- a record that breaks a rule leaves all as it was
+  pub not-allowed : (p v : List ℕ) {a : Bool} → a ≡ here → a ≡ false → RecordIf f s at n k fl 6 p v p v
+  not-allowed p v a e =
+      record { fault = λ x. first-6 here (some k) (record { type = x; flags = fl; body = body }) (sym a ∙ e); lent = λ z. absurd (omega (arith, z)); kept = λ z. (refl, refl) }
+
+  module _ {a : Bool} (qa : a ≡ here) (ea : a ≡ true) {g : Bool} (qg : g ≡ goodFlags k fl) where
+    pub bad-flags : (p v : List ℕ) → g ≡ false → RecordIf f s at n k fl 7 p v p v
+    bad-flags p v e = record { fault = λ x. flags-7 here (sym qa ∙ ea) k fl body x qg e; lent = λ z. absurd (omega (arith, z)); kept = λ z. (refl, refl) }
+
+    module _ (eg : g ≡ true) (m : Reached f s at n k fl) {r : ℕ} {v₀ v₁ : List ℕ} (d : FilledIf k fl f at n r v₀ v₁) where
+      fault-is : FaultIs here (some k) fl body r
+      unfolding recAt
+      fault-is x =
+          let h = m .heads .inside .held in
+          let l = h .least in
+          let q : n - 4 ≡ at + n - (at + 4) = omega arith in
+          body-8 here (sym qa ∙ ea) k fl body x qg eg (d .fault ∙ ap (λ (y : ℕ). bodyFault k fl (take y (drop (at + 4) f))) q)
+
+      pub bad-body : (p : List ℕ) → (r ≡ 0 → ⊥) → RecordIf f s at n k fl r p v₀ p v₁
+      bad-body p z = record { fault = fault-is; lent = λ q. absurd (z q); kept = λ q. (refl, d .kept q) }
+
+      -- the fields, the head and the place after the record are stored
+      pub record-lent : r ≡ 0 → (after : State) (count : ℕ) (p₀ p₁ v₂ : List ℕ) → after ≡ stateOf (next (contextIn s) at (some k)) → count ≡ takenBy k (s .count)
+          → v₂ ≡ put v₁ 0 (headWords k fl at (offsetIn (after .cell)) (offsetIn (after .layer)) (runIn (s .first) count)) → p₁ ≡ cursorWords (record { at = at + n; state = after })
+          → RecordIf f s at n k fl 0 p₀ v₀ p₁ v₂
+      record-lent z after count p₀ p₁ v₂ q qc qh qp =
+          let c = met m refl fault-is z in
+          let w = moved s at k (m .low) q in
+          let b = d .filled z in
+          let y = read-as (readable (c .found)) refl (b .read) in
+          let v : View = record { kind = k; flags = fl; fields = b .fields; at = at; cell = offsetIn (after .cell); layer = offsetIn (after .layer); run = runIn (s .first) count } in
           record {
-            means = view-is f at s after at n k fl (m .found) (w .0) (d .fields) (offsetIn (after .cell)) (offsetIn (after .layer)) (runIn (s .first) count) (r .0) refl refl (ap (runIn (s .first)) qc);
-            kind-is = r .1 .0;
-            offset-is = refl;
-            located = r .1 .1;
-          };
-      words = view-stored v₀ f v v₁ v₂ qh (d .words);
-      after = after;
-      follows = w;
-      place = qp;
-    }
+            fault = subst (FaultIs here (some k) fl body) z fault-is;
+            lent =
+                λ u. record {
+                  view = v;
+                  viewed =
+                      record {
+                        means = view-is f at s after at n k fl (c .found) (w .0) (b .fields) (offsetIn (after .cell)) (offsetIn (after .layer)) (runIn (s .first) count) (y .0) refl refl (ap (runIn (s .first)) qc);
+                        kind-is = y .1 .0;
+                        offset-is = refl;
+                        located = y .1 .1;
+                      };
+                  words = view-stored v₀ f v v₁ v₂ (b .words) qh;
+                  after = after;
+                  follows = w;
+                  place = qp;
+                };
+            kept = λ u. absurd (u refl);
+          }
 
 -- ---- a step from the lent words p₀ and v₀, and the lent number a₀
 
@@ -65,16 +108,33 @@ module _ (f p₀ v₀ : List ℕ) (a₀ : ℕ) {c : Cursor} (e : c ≡ cursorIn 
   lent-ended Accepted r a₁ q s = record { outcome = Done; made = subst (λ (x : Cursor). StepMade f x Done) e (sought-ended f c h q ((λ g. (refl, tt)), tt)); answer = s .0; place = refl; view = refl; offset = s .1; goes-on = refl }
   lent-ended (NotAccepted n a) r a₁ q s = record { outcome = Refused n (At a) c; made = subst (λ (x : Cursor). StepMade f x (Refused n (At a) c)) e (sought-ended f c h q ((λ g. (refl, tt)), refl)); answer = s .0; place = refl; view = refl; offset = s .1; goes-on = refl }
 
-  pub lent-known : (at n : ℕ) (k : Kind) (fl : ℕ) (p₁ v₁ : List ℕ) → o ≡ Known at n k fl → RecordLent f (c .state) at n k fl p₁ v₀ v₁ → StepLent f p₀ v₀ a₀ 0 p₁ v₁ a₀
-  lent-known at n k fl p₁ v₁ q d =
-      let a : Cursor = record { at = at + n; state = d .after } in
-      let m = known-made f (c .state) at n k (d .view) (d .after) (d .follows) (d .viewed) in
-      record {
-        outcome = Record (d .view) a;
-        made = subst (λ (x : Cursor). StepMade f x (Record (d .view) a)) e (sought-made f c h q m);
-        answer = refl;
-        place = d .place;
-        view = d .words;
-        offset = refl;
-        goes-on = ap cursorIn (d .place) ∙ cursor-back a (m .1 c);
-      }
+  module _ (at n : ℕ) (k : Kind) (fl r : ℕ) (p₁ v₁ : List ℕ) (q : o ≡ Known at n k fl) (d : RecordIf f (c .state) at n k fl r p₀ v₀ p₁ v₁) where
+    pub lent-broken : (r ≡ 0 → ⊥) → StepLent f p₀ v₀ a₀ r p₁ v₁ at
+    lent-broken z =
+        let y = Refused r (At at) c in
+        let b = broken-made (sought-known f c h q .0) refl (d .fault) c z in
+        record {
+          outcome = y;
+          made = subst (λ (x : Cursor). StepMade f x y) e (sought-made f c h q b);
+          answer = refl;
+          place = d .kept z .0;
+          view = d .kept z .1;
+          offset = refl;
+          goes-on = ap cursorIn (d .kept z .0);
+        }
+
+    pub lent-record : r ≡ 0 → StepLent f p₀ v₀ a₀ 0 p₁ v₁ a₀
+    lent-record z =
+        let u = d .lent z in
+        let a : Cursor = record { at = at + n; state = u .after } in
+        let m = known-made f (c .state) at n k (u .view) (u .after) (u .follows) (u .viewed) in
+        let g = judged-kept (sought-known f c h q .0) refl (d .fault) z in
+        record {
+          outcome = Record (u .view) a;
+          made = subst (λ (x : Cursor). StepMade f x (Record (u .view) a)) e (sought-made f c h q (m .0 ∙ sym g, m .1 c, m .2));
+          answer = refl;
+          place = u .place;
+          view = u .words;
+          offset = refl;
+          goes-on = ap cursorIn (u .place) ∙ cursor-back a (m .1 c);
+        }

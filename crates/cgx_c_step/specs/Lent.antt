@@ -2,11 +2,13 @@
 use mathlib.Core.Path.{_≡_}
 use mathlib.Core.List.{List}
 use mathlib.Core.Option.{some}
-use Prim.Native.Nat.{ℕ, _+_}
+use Prim.Native.Nat.{ℕ, _+_, _-_}
+use lib.ListN.{take, drop}
 use Rattle.cgx_spec.specs.declared.Kind.{Kind}
 use Rattle.cgx_spec.specs.declared.Verdict.{Verdict}
 use Rattle.cgx_spec.specs.declared.Verdict.the-variants.{Accepted, Refused as NotAccepted}
-use Rattle.cgx_spec.specs.Order.{next}
+use Rattle.cgx_spec.specs.Order.{allowed, next}
+use Rattle.cgx_format_records.specs.Faults.{FaultIs}
 use Rattle.cgx_format_kinds.specs.declared.View.{View}
 use Rattle.cgx_read_walk.specs.declared.Outcome.{Outcome}
 use Rattle.cgx_read_walk.specs.declared.Outcome.the-variants.{Record, Done, Refused}
@@ -73,6 +75,12 @@ pub record RecordLent (f : List ℕ) (s : State) (at n : ℕ) (k : Kind) (fl : �
   pub after : State
   pub follows : (contextIn after ≡ next (contextIn s) at (some k)) × (after ≡ stateOf (contextIn after))
   pub place : p₁ ≡ cursorWords (record { at = at + n; state = after })
+
+-- The record judged, and left there if it breaks no rule: r is the first of the rules 6 to 12 that it breaks, or 0.
+pub record RecordIf (f : List ℕ) (s : State) (at n : ℕ) (k : Kind) (fl r : ℕ) (p₀ v₀ p₁ v₁ : List ℕ) : Type 0 where
+  pub fault : FaultIs (allowed (contextIn s) (some k)) (some k) fl (take (at + n - (at + 4)) (drop (at + 4) f)) r
+  pub lent : r ≡ 0 → RecordLent f s at n k fl p₁ v₀ v₁
+  pub kept : (r ≡ 0 → ⊥) → (p₁ ≡ p₀) × (v₁ ≡ v₀)
 
 -- The end of a walk: done, or a refusal and its offset.
 abbrev pub answerAt : Verdict → ℕ

@@ -7,15 +7,17 @@ use cgx_c_views::ViewWords;
 use cgx_c_views::put_head;
 use cgx_format_cursor::Cursor;
 use cgx_format_cursor::State;
+use cgx_format_cursor::allows;
 use cgx_format_cursor::next_state;
+use cgx_format_records::flags_good;
 use cgx_read_views::taken;
 use cgx_read_walk::Sought;
 use cgx_read_walk::seek;
 use cgx_spec::Kind;
 use cgx_spec::Verdict;
 ghost use mathlib.Core.Path.{_≡_};
-ghost use Rattle.cgx_read_walk.specs.Walk.{Met};
-ghost use Rattle.cgx_c_step.specs.Lent.{answerAt, offsetAt, StepLent, RecordLent};
+ghost use Rattle.cgx_read_walk.specs.Walk.{Reached};
+ghost use Rattle.cgx_c_step.specs.Lent.{answerAt, offsetAt, StepLent, RecordIf};
 
 // The end of a good file.
 const DONE: u32 = 256;
@@ -36,8 +38,12 @@ pub fn step_over(file: &[u8], place: &mut PlaceWords, view: &mut ViewWords, at: 
             kind,
             flags,
         } => {
-            store_record(file, place, view, s, from, size, kind, flags);
-            0
+            let fault = record_over(file, place, view, s, from, size, kind, flags);
+            if fault == 0 {
+                return 0;
+            }
+            *at = from as u64;
+            fault as u32
         }
     }
 }
@@ -54,8 +60,9 @@ fn end(at: &mut u64, v: Verdict) -> u32
     }
 }
 
-// The good record of n bytes, of kind k and with these flags, at an offset: its fields are stored as they are read.
-fn store_record(
+// The record of n bytes, of kind k and with these flags, at an offset: the first of the rules 6 to 12 that it breaks, or 0. Each kind's rules and stores are in one arm (cgx_c_fields), so
+// that the head of the view comes after them.
+fn record_over(
     file: &[u8],
     place: &mut PlaceWords,
     view: &mut ViewWords,
@@ -64,14 +71,23 @@ fn store_record(
     n: usize,
     k: Kind,
     flags: u8,
-)
-    requires { ⌜ Met (now file) s at n k flags ⌝ }
-    ensures { λ _. ⌜ RecordLent (now (file .entry)) s at n k flags (now (place .exit)) (now (view .entry)) (now (view .exit)) ⌝ }
+) -> u8
+    requires { ⌜ Reached (now file) s at n k flags ⌝ }
+    ensures { λ r. ⌜ RecordIf (now (file .entry)) s at n k flags r (now (place .entry)) (now (view .entry)) (now (place .exit)) (now (view .exit)) ⌝ }
 {
+    if !allows(s, k) {
+        return 6;
+    }
+    if !flags_good(k, flags) {
+        return 7;
+    }
+    let fault = fill_fields(file, view, k, flags, at, n);
+    if fault != 0 {
+        return fault;
+    }
     let after = next_state(s, at, k);
     let count = taken(k, s.count);
     put_head(view, k, flags, at, after.cell, after.layer, s.first, count);
-    fill_fields(file, view, k, flags, at, n);
     put_cursor(
         place,
         Cursor {
@@ -79,4 +95,5 @@ fn store_record(
             state: after,
         },
     );
+    0
 }

@@ -1,12 +1,13 @@
 -- What is stored in the code's order are the words of a kind, and of a view. Assumes nothing.
 use mathlib.Core.Path.{_≡_, refl, ap, _∙_}
 use mathlib.Core.List.{List, [], _∷_, _++_}
-use Prim.Native.Nat.{ℕ, zero, suc, _+_, _≤_}
+use Prim.Native.Nat.{ℕ, zero, suc, _+_, _<_, _≤_}
 use native.Mathlib.Omega.{arith}
 use native.Mathlib.Numerals.{add-one}
 use lib.Dec.{eqb·suc-zero}
 use lib.IntN.{ℤ}
 use lib.ListN.{length, set}
+use lib.Seq.{set-comm}
 use Rattle.cgx_spec.specs.declared.Kind.{Kind}
 use Rattle.cgx_spec.specs.declared.Offset.{Offset}
 use Rattle.cgx_spec.specs.declared.Run.{Run}
@@ -29,6 +30,19 @@ use Rattle.cgx_c_views.specs.ViewWords.{spanWords, listWords, arrayWords
 pub two : (l : List ℕ) (i a b : ℕ) → set (set l i a) (i + 1) b ≡ put l i (a ∷ b ∷ [])
 unfolding put
 two l i a b = ap (λ (k : ℕ). set (set l i a) k b) (add-one i)
+
+-- a store before another one, made after it
+set-before : (l : List ℕ) (i j v : ℕ) (ws : List ℕ) → i < j → set (put l j ws) i v ≡ put (set l i v) j ws
+unfolding put
+set-before l i j v [] h = refl
+set-before l i j v (w ∷ ws) h =
+    set-before (set l j w) i (suc j) v ws (omega arith) ∙ ap (λ (x : List ℕ). put x (suc j) ws) (set-comm l j i w v (λ e. let q : j ≡ i = e in omega arith))
+
+put-swap : (l : List ℕ) (i j : ℕ) (vs ws : List ℕ) → i + length vs ≤ j → put (put l j ws) i vs ≡ put (put l i vs) j ws
+unfolding put
+put-swap l i j [] ws h = refl
+put-swap l i j (v ∷ vs) ws h =
+    ap (λ (x : List ℕ). put x (suc i) vs) (set-before l i j v ws (omega arith)) ∙ put-swap (set l i v) (suc i) j vs ws (omega arith)
 
 -- ---- heads
 
@@ -74,12 +88,13 @@ module _ (w : List ℕ) where
   unfolding put headWords
   head-stored k fl at cell layer first count a b qa qb = rw (← number-back cell, ← number-back layer, ← run-first first count, ← run-count first count, qa, qb) refl
 
-  -- then the fields
-  pub view-stored : (f : List ℕ) (v : View) (w₁ w₂ : List ℕ) → w₁ ≡ put w 0 (headWords (v .kind) (v .flags) (v .at) (v .cell) (v .layer) (v .run)) → w₂ ≡ put w₁ 6 (fieldWords f (v .flags) (v .at) (v .fields)) → w₂ ≡ put w 0 (viewWords f v)
+  -- the fields, and then the head before them
+  pub view-stored : (f : List ℕ) (v : View) (w₁ w₂ : List ℕ) → w₁ ≡ put w 6 (fieldWords f (v .flags) (v .at) (v .fields)) → w₂ ≡ put w₁ 0 (headWords (v .kind) (v .flags) (v .at) (v .cell) (v .layer) (v .run)) → w₂ ≡ put w 0 (viewWords f v)
   unfolding viewWords headWords
   view-stored f v w₁ w₂ q₁ q₂ =
       let ws = fieldWords f (v .flags) (v .at) (v .fields) in
-      q₂ ∙ ap (λ (x : List ℕ). put x 6 ws) q₁ ∙ put-next w 0 6 6 (headWords (v .kind) (v .flags) (v .at) (v .cell) (v .layer) (v .run)) ws refl refl
+      let hs = headWords (v .kind) (v .flags) (v .at) (v .cell) (v .layer) (v .run) in
+      q₂ ∙ ap (λ (x : List ℕ). put x 0 hs) q₁ ∙ put-swap w 0 6 hs ws (omega arith) ∙ put-next w 0 6 6 hs ws refl refl
 
 -- ---- a view has room for every kind: a store of its words leaves none out
 

@@ -3,15 +3,16 @@ use mathlib.Core.Path.{_≡_, refl, sym, ap, ap₂, _∙_, subst}
 use mathlib.Core.Bool.{Bool, true, false, cond}
 use mathlib.Core.List.{List}
 use mathlib.Core.Option.{Option, none, some}
-use Prim.Native.Nat.{ℕ, zero, suc, _+_, _<_, _≤_}
+use Prim.Native.Nat.{ℕ, zero, suc, _+_, _-_, _<_, _≤_}
 use native.Mathlib.Omega.{arith}
-use lib.ListN.{length, drop, length-drop, getD}
+use lib.ListN.{length, take, drop, length-drop, getD}
 use Rattle.cgx_spec.specs.declared.Kind.{Kind}
-use Rattle.cgx_spec.specs.declared.Offset.the-variants.{Nowhere}
+use Rattle.cgx_spec.specs.declared.Offset.the-variants.{Nowhere, At}
 use Rattle.cgx_spec.specs.declared.Context.{Context}
 use Rattle.cgx_spec.specs.declared.Verdict.{Verdict}
+use Rattle.cgx_spec.specs.declared.Verdict.the-variants.{Accepted, Refused as NotAccepted}
 use Rattle.cgx_spec.specs.Kinds.{kindOf}
-use Rattle.cgx_spec.specs.Order.{next}
+use Rattle.cgx_spec.specs.Order.{allowed, next}
 use Rattle.cgx_spec.specs.Records.{size, Placed, contextAfter, viewOf}
 use Rattle.cgx_spec.specs.Files.{Step, stop, go, step}
 use Rattle.cgx_spec.specs.Walking.{placeAfter, forged, Answer, seen, refusedAt, ending, answer, stepOf, recAt, Held}
@@ -19,7 +20,9 @@ use Rattle.cgx_spec.proofs.Verdicts.{StepNamed, step-named}
 use Rattle.cgx_format_headers.specs.declared.RecordType.{RecordType}
 use Rattle.cgx_format_headers.specs.declared.RecordType.the-variants.{Known, Unknown}
 use Rattle.cgx_format_headers.specs.declared.Header.{Header}
-use Rattle.cgx_format_headers.specs.Headers.{kindIn}
+use Rattle.cgx_format_headers.specs.declared.Headed.{Headed}
+use Rattle.cgx_format_headers.specs.declared.Headed.the-variants.{Bad, Good as HeaderGood}
+use Rattle.cgx_format_headers.specs.Headers.{kindIn, Heads}
 use Rattle.cgx_format_headers.proofs.HeaderLaws.{kind-says, flags-say}
 use Rattle.cgx_format_headers.proofs.Heads.{held-size}
 use Rattle.cgx_format_kinds.specs.declared.View.{View}
@@ -27,10 +30,13 @@ use Rattle.cgx_read_fields.specs.Views.{FieldsAt}
 use Rattle.cgx_format_cursor.specs.declared.State.{State}
 use Rattle.cgx_format_cursor.specs.declared.Cursor.{Cursor}
 use Rattle.cgx_format_cursor.specs.Cursors.{contextIn, placeIn, stateOf, cursorOf}
-use Rattle.cgx_format_cursor.proofs.Laws.{next-in}
+use Rattle.cgx_format_cursor.proofs.Laws.{next-in, unknown-needs}
+use Rattle.cgx_format_records.specs.Faults.{ruleFault, FaultIs}
+use Rattle.cgx_format_records.proofs.Rules.{first-6, unknown-0}
 use Rattle.cgx_read_steps.specs.Steps.{stepMeant, Steps}
 use Rattle.cgx_read_steps.specs.declared.Stepped.{Stepped}
 use Rattle.cgx_read_steps.specs.declared.Stepped.the-variants.{Stop, Go}
+use Rattle.cgx_read_steps.proofs.Steps.{step-done, step-more, step-bad, step-go, step-broken}
 use Rattle.cgx_read_steps.proofs.Walks.{good-header, good}
 use Rattle.cgx_read_walk.specs.declared.Started.the-variants.{Refused as NotBegun}
 use Rattle.cgx_read_walk.specs.declared.Outcome.{Outcome}
@@ -38,7 +44,7 @@ use Rattle.cgx_read_walk.specs.declared.Outcome.the-variants.{Record, Re
 use Rattle.cgx_read_walk.specs.declared.Sought.{Sought}
 use Rattle.cgx_read_walk.specs.declared.Sought.the-variants.{Forged, Ended, Known as Seen}
 use Rattle.cgx_read_views.specs.RecordViews.{Viewed}
-use Rattle.cgx_read_walk.specs.Walk.{started, answerMeant, Left, Located, StepMade, placedAt, foundMeant, SoughtIs}
+use Rattle.cgx_read_walk.specs.Walk.{started, answerMeant, Left, Located, StepMade, answerFrom, Reached, SoughtIs, Met, placedAt, foundMeant}
 
 -- an unknown record is skipped, a known one is seen
 abbrev either : Option Kind → Answer → Placed → Answer
@@ -67,14 +73,10 @@ enough (suc k) (suc j) bs (go p rest) h lk lj =
     one none e = e
     one (some d) e = refl
 
--- what a step from an offset and a context on answers
-abbrev pub from : List ℕ → Context → ℕ → Answer
-from f c at = answer (length f) (step c at (drop at f))
-
 -- ---- the three cases of a record
 
 module _ (f : List ℕ) (c : Context) (at : ℕ) {r : Stepped} (e : Steps f c at r) where
-  pub from-stop : {v : Verdict} → r ≡ Stop v → from f c at ≡ ending v
+  pub from-stop : {v : Verdict} → r ≡ Stop v → answerFrom f c at ≡ ending v
   unfolding stepMeant answer
   from-stop {v} q = ap (answer (length f)) (e .steps ∙ ap (stepMeant f c at) q) ∙ go₀ (length f)
     where
@@ -97,7 +99,7 @@ module _ (f : List ℕ) (c : Context) (at : ℕ) {r : Stepped} (e : Steps f c at
     unfolding contextAfter recAt
     after-is k = ap (next c at) k
 
-    opened : (k : ℕ) → length f ≤ suc k → answer (suc k) (go (placedAt f c at n) (drop (at + n) f)) ≡ either (kindOf (getD f (at + 2) 0)) (from f (contextAfter (placedAt f c at n)) (at + n)) (placedAt f c at n)
+    opened : (k : ℕ) → length f ≤ suc k → answer (suc k) (go (placedAt f c at n) (drop (at + n) f)) ≡ either (kindOf (getD f (at + 2) 0)) (answerFrom f (contextAfter (placedAt f c at n)) (at + n)) (placedAt f c at n)
     unfolding answer recAt
     opened k l =
         let p = placedAt f c at n in
@@ -113,18 +115,18 @@ module _ (f : List ℕ) (c : Context) (at : ℕ) {r : Stepped} (e : Steps f c at
         two none w = w
         two (some d) w = refl
 
-    cases : from f c at ≡ either (kindOf (getD f (at + 2) 0)) (from f (contextAfter (placedAt f c at n)) (at + n)) (placedAt f c at n)
+    cases : answerFrom f c at ≡ either (kindOf (getD f (at + 2) 0)) (answerFrom f (contextAfter (placedAt f c at n)) (at + n)) (placedAt f c at n)
     cases = ap (answer (length f)) went ∙ one (length f) refl
       where
-        one : (k : ℕ) → length f ≡ k → answer k (go (placedAt f c at n) (drop (at + n) f)) ≡ either (kindOf (getD f (at + 2) 0)) (from f (contextAfter (placedAt f c at n)) (at + n)) (placedAt f c at n)
+        one : (k : ℕ) → length f ≡ k → answer k (go (placedAt f c at n) (drop (at + n) f)) ≡ either (kindOf (getD f (at + 2) 0)) (answerFrom f (contextAfter (placedAt f c at n)) (at + n)) (placedAt f c at n)
         one zero z = absurd (let h = inside in let a = h .least in let i = h .inside in omega arith)
         one (suc k) z = opened k (omega arith)
 
-    pub from-known : {k : Kind} → kindOf (getD f (at + 2) 0) ≡ some k → from f c at ≡ foundMeant f c at n k
+    pub from-known : {k : Kind} → kindOf (getD f (at + 2) 0) ≡ some k → answerFrom f c at ≡ foundMeant f c at n k
     unfolding placeAfter
     from-known {k} x =
         let s : size (recAt f at n) ≡ n = held-size f at inside in
-        cases ∙ ap (λ (o : Option Kind). either o (from f (contextAfter (placedAt f c at n)) (at + n)) (placedAt f c at n)) x
+        cases ∙ ap (λ (o : Option Kind). either o (answerFrom f (contextAfter (placedAt f c at n)) (at + n)) (placedAt f c at n)) x
         ∙ ap (λ (m : ℕ). seen (viewOf k (placedAt f c at n)) (record { at = at + m; context = contextAfter (placedAt f c at n) })) s
         ∙ ap (λ (d : Context). seen (viewOf k (placedAt f c at n)) (record { at = at + n; context = d })) (after-is x)
 
@@ -132,36 +134,68 @@ module _ (f : List ℕ) (c : Context) (at : ℕ) {r : Stepped} (e : Steps f c at
     pub kind-is : {t : RecordType} → h .kind ≡ t → kindOf (getD f (at + 2) 0) ≡ kindIn t
     kind-is k = sym (kind-says f at (good-header f c at e q .read)) ∙ ap kindIn k
 
-    pub from-unknown : kindOf (getD f (at + 2) 0) ≡ none → from f c at ≡ from f c (at + n)
+    pub from-unknown : kindOf (getD f (at + 2) 0) ≡ none → answerFrom f c at ≡ answerFrom f c (at + n)
     from-unknown x =
         let y : contextAfter (placedAt f c at n) ≡ c = after-is x in
-        cases ∙ ap (λ (o : Option Kind). either o (from f (contextAfter (placedAt f c at n)) (at + n)) (placedAt f c at n)) x
-        ∙ ap (λ (d : Context). from f d (at + n)) y
+        cases ∙ ap (λ (o : Option Kind). either o (answerFrom f (contextAfter (placedAt f c at n)) (at + n)) (placedAt f c at n)) x
+        ∙ ap (λ (d : Context). answerFrom f d (at + n)) y
 
 -- ---- what a step comes to
 
 module _ (f : List ℕ) (c : Cursor) where
   pub step-forged : {b : Bool} → b ≡ forged (length f) (placeIn c) → b ≡ true → SoughtIs f c Forged
   unfolding stepOf
-  step-forged q e = sym (ap (λ (b : Bool). cond b (refusedAt 16 Nowhere) (from f (placeIn c .context) (placeIn c .at))) (sym q ∙ e))
+  step-forged q e = sym (ap (λ (b : Bool). cond b (refusedAt 16 Nowhere) (answerFrom f (placeIn c .context) (placeIn c .at))) (sym q ∙ e))
 
-  pub step-on : {b : Bool} → b ≡ forged (length f) (placeIn c) → b ≡ false → stepOf f (placeIn c) ≡ from f (contextIn (c .state)) (c .at)
+  pub step-on : {b : Bool} → b ≡ forged (length f) (placeIn c) → b ≡ false → stepOf f (placeIn c) ≡ answerFrom f (contextIn (c .state)) (c .at)
   unfolding stepOf placeIn
-  step-on q e = ap (λ (b : Bool). cond b (refusedAt 16 Nowhere) (from f (contextIn (c .state)) (c .at))) (sym q ∙ e)
+  step-on q e = ap (λ (b : Bool). cond b (refusedAt 16 Nowhere) (answerFrom f (contextIn (c .state)) (c .at))) (sym q ∙ e)
 
-  module _ (at : ℕ) {r : Stepped} (e : Steps f (contextIn (c .state)) at r) (w : stepOf f (placeIn c) ≡ from f (contextIn (c .state)) at) where
-    pub seek-ended : {v : Verdict} → r ≡ Stop v → SoughtIs f c (Ended v)
-    seek-ended q = sym (w ∙ from-stop f (contextIn (c .state)) at e q)
+  -- where the walk is after unknown records
+  module _ (at : ℕ) (w : stepOf f (placeIn c) ≡ answerFrom f (contextIn (c .state)) at) where
+    pub seek-done : c .state .ended ≡ true → at ≡ length f → SoughtIs f c (Ended Accepted)
+    unfolding contextIn
+    seek-done e q = sym (w ∙ from-stop f (contextIn (c .state)) at (step-done f (contextIn (c .state)) at e q) refl)
 
-    pub seek-known : {h : Header} {k : Kind} → r ≡ Go h → h .kind ≡ Known k → 0 < at → c .state .count ≤ at → SoughtIs f c (Seen at (h .size) k (h .flags))
-    seek-known {h} {k} q t l s =
-        let d = contextIn (c .state) in
-        let x = kind-is f d at e q t in
-        let g = good-header f d at e q in
-        (record { found = record { good = g .good; kind-is = x; flags-is = flags-say f at (g .read) }; low = l; few = s }, sym (w ∙ from-known f d at e q x))
+    pub seek-more : c .state .ended ≡ true → at ≤ length f → (at ≡ length f → ⊥) → SoughtIs f c (Ended (NotAccepted 13 at))
+    unfolding contextIn
+    seek-more e l q = sym (w ∙ from-stop f (contextIn (c .state)) at (step-more f (contextIn (c .state)) at e l q) refl)
 
-    pub seek-on : {h : Header} → r ≡ Go h → h .kind ≡ Unknown → stepOf f (placeIn c) ≡ from f (contextIn (c .state)) (at + h .size)
-    seek-on q t = w ∙ from-unknown f (contextIn (c .state)) at e q (kind-is f (contextIn (c .state)) at e q t)
+    module _ (e : c .state .ended ≡ false) {r : Headed} (d : Heads f at r) where
+      pub seek-bad : {n : ℕ} → r ≡ Bad n → SoughtIs f c (Ended (NotAccepted n at))
+      unfolding contextIn
+      seek-bad q = sym (w ∙ from-stop f (contextIn (c .state)) at (step-bad f (contextIn (c .state)) at r e d q) refl)
+
+      module _ {h : Header} (q : r ≡ HeaderGood h) where
+        pub seek-known : {k : Kind} → h .kind ≡ Known k → 0 < at → c .state .count ≤ at → SoughtIs f c (Seen at (h .size) k (h .flags))
+        seek-known {k} t l s = (
+          record { heads = subst (Heads f at) (q ∙ ap (λ (x : RecordType). HeaderGood (record { size = h .size; kind = x; flags = h .flags })) t) d; unended = e; low = l; few = s },
+          sym w,
+        )
+
+        -- an unknown record needs a LIBRARY before it, and nothing else
+        module _ (t : h .kind ≡ Unknown) where
+          abbrev body : List ℕ
+          body = take (at + h .size - (at + 4)) (drop (at + 4) f)
+
+          unknown-fault : {n : ℕ} → FaultIs (c .state .library) none (h .flags) body n → FaultIs (c .state .library) (kindIn (h .kind)) (h .flags) body n
+          unknown-fault z x = z x ∙ ap (λ (u : RecordType). ruleFault (c .state .library) (kindIn u) (record { type = x; flags = h .flags; body = body })) (sym t)
+
+          needs : c .state .library ≡ allowed (contextIn (c .state)) (kindIn (h .kind))
+          needs = unknown-needs (c .state) ∙ ap (λ (u : RecordType). allowed (contextIn (c .state)) (kindIn u)) (sym t)
+
+          pub seek-early : c .state .library ≡ false → SoughtIs f c (Ended (NotAccepted 6 at))
+          unfolding contextIn
+          seek-early b =
+              let z : FaultIs (c .state .library) none (h .flags) body 6 = λ x. first-6 (c .state .library) none (record { type = x; flags = h .flags; body = body }) b in
+              sym (w ∙ from-stop f (contextIn (c .state)) at (step-broken f (contextIn (c .state)) at r e d q needs (unknown-fault z) (λ y. absurd (omega (arith, y)))) refl)
+
+          pub seek-on : c .state .library ≡ true → stepOf f (placeIn c) ≡ answerFrom f (contextIn (c .state)) (at + h .size)
+          unfolding contextIn
+          seek-on b =
+              let z : FaultIs (c .state .library) none (h .flags) body 0 = λ x. unknown-0 b (record { type = x; flags = h .flags; body = body }) in
+              let s = step-go f (contextIn (c .state)) at r e d q needs (unknown-fault z) refl in
+              w ∙ from-unknown f (contextIn (c .state)) at s refl (kind-is f (contextIn (c .state)) at s refl t)
 
   -- what is sought, and its answer
   module _ {o : Sought} (h : SoughtIs f c o) where
@@ -176,8 +210,36 @@ module _ (f : List ℕ) (c : Cursor) where
       pub sought-known : SoughtIs f c (Seen at n k fl)
       sought-known = subst (SoughtIs f c) q h
 
-      pub sought-made : {r : Outcome} → (answerMeant f r ≡ foundMeant f (contextIn (c .state)) at n k) × ((p : Cursor) → Left p r) × Located f r → StepMade f c r
-      sought-made e = record { means = e .0 ∙ sought-known .1; left = e .1 c; located = e .2 }
+      pub sought-made : {r : Outcome} → (answerMeant f r ≡ answerFrom f (contextIn (c .state)) at) × Left c r × Located f r → StepMade f c r
+      sought-made e = record { means = e .0 ∙ sought-known .1; left = e .1; located = e .2 }
+
+-- ---- a known record, judged: r is the first of the rules 6 to 12 that it breaks, or 0
+
+module _ {f : List ℕ} {s : State} {at n : ℕ} {k : Kind} {fl : ℕ} (m : Reached f s at n k fl) {here : Bool} (a : here ≡ allowed (contextIn s) (some k)) {r : ℕ}
+    (z : FaultIs here (some k) fl (take (at + n - (at + 4)) (drop (at + 4) f)) r) where
+  abbrev header : Header
+  header = record { size = n; kind = Known k; flags = fl }
+
+  judged-go : r ≡ 0 → Steps f (contextIn s) at (Go header)
+  unfolding contextIn
+  judged-go q = step-go f (contextIn s) at (HeaderGood header) (m .unended) (m .heads) refl a z q
+
+  pub met : r ≡ 0 → Met f s at n k fl
+  met q =
+      let e = judged-go q in
+      let g = good-header f (contextIn s) at e refl in
+      record { found = record { good = g .good; kind-is = kind-is f (contextIn s) at e refl refl; flags-is = flags-say f at (g .read) }; low = m .low; few = m .few }
+
+  pub judged-kept : r ≡ 0 → answerFrom f (contextIn s) at ≡ foundMeant f (contextIn s) at n k
+  judged-kept q = let e = judged-go q in from-known f (contextIn s) at e refl (kind-is f (contextIn s) at e refl refl)
+
+  pub judged-broken : (r ≡ 0 → ⊥) → answerFrom f (contextIn s) at ≡ ending (NotAccepted r at)
+  unfolding contextIn
+  judged-broken q = from-stop f (contextIn s) at (step-broken f (contextIn s) at (HeaderGood header) (m .unended) (m .heads) refl a z q) refl
+
+  pub broken-made : (p : Cursor) → (r ≡ 0 → ⊥) → let o = Refused r (At at) p in (answerMeant f o ≡ answerFrom f (contextIn s) at) × Left p o × Located f o
+  unfolding answerMeant ending
+  broken-made p q = (sym (judged-broken q), refl, tt)
 
 -- ---- the start
 

@@ -2,16 +2,21 @@
 use mathlib.Core.List.{List}
 use mathlib.Core.Path.{_≡_}
 use mathlib.Core.Option.{some}
+use mathlib.Core.Bool.{false}
 use Prim.Native.Nat.{ℕ, zero, suc, _+_, _<_, _≤_}
+use lib.ListN.{length, drop}
 use Rattle.cgx_spec.specs.declared.Context.{Context}
 use Rattle.cgx_spec.specs.declared.Kind.{Kind}
 use Rattle.cgx_spec.specs.declared.Offset.the-variants.{Nowhere}
-use Rattle.cgx_spec.specs.Files.{opening}
+use Rattle.cgx_spec.specs.Files.{opening, step}
 use Rattle.cgx_spec.specs.Order.{next}
 use Rattle.cgx_spec.specs.Records.{Placed, viewOf}
-use Rattle.cgx_spec.specs.Walking.{firstPlace, Answer, seen, done, refusedAt, ending, stepOf, recAt}
+use Rattle.cgx_spec.specs.Walking.{firstPlace, Answer, seen, done, refusedAt, ending, answer, stepOf, recAt}
 use Rattle.cgx_format_kinds.specs.Meant.{fieldsKind, viewMeant}
 use Rattle.cgx_format_kinds.specs.declared.View.{View}
+use Rattle.cgx_format_headers.specs.declared.RecordType.the-variants.{Known as KnownType}
+use Rattle.cgx_format_headers.specs.declared.Headed.the-variants.{Good}
+use Rattle.cgx_format_headers.specs.Headers.{Heads}
 use Rattle.cgx_format_cursor.specs.declared.State.{State}
 use Rattle.cgx_format_cursor.specs.declared.Cursor.{Cursor}
 use Rattle.cgx_format_cursor.specs.Cursors.{contextIn, placeIn, cursorOf}
@@ -57,9 +62,27 @@ pub record StepMade (f : List ℕ) (c : Cursor) (r : Outcome) : Type 0 where
   pub left : Left c r
   pub located : Located f r
 
--- ---- a known record that a step has found
+-- ---- the next known record
 
--- A good record of a known kind at an offset that a record can have, after a state in which one more PROPERTY can be counted.
+-- What a step from an offset and a context on answers.
+abbrev pub answerFrom : List ℕ → Context → ℕ → Answer
+answerFrom f c at = answer (length f) (step c at (drop at f))
+
+-- A record of n bytes, of kind k and with flags fl, lies in the file at an offset that a record can have, after a state that ENDLIB has not ended and in which one more PROPERTY can be
+-- counted. Its rules are not judged.
+pub record Reached (f : List ℕ) (s : State) (at n : ℕ) (k : Kind) (fl : ℕ) : Type 0 where
+  pub heads : Heads f at (Good (record { size = n; kind = KnownType k; flags = fl }))
+  pub unended : s .ended ≡ false
+  pub low : 0 < at
+  pub few : s .count ≤ at
+
+-- What a step comes to.
+abbrev pub SoughtIs : List ℕ → Cursor → Sought → Type 0
+SoughtIs f c Forged = refusedAt 16 Nowhere ≡ stepOf f (placeIn c)
+SoughtIs f c (Ended v) = ending v ≡ stepOf f (placeIn c)
+SoughtIs f c (Known at n k fl) = Reached f (c .state) at n k fl × (answerFrom f (contextIn (c .state)) at ≡ stepOf f (placeIn c))
+
+-- It breaks no rule.
 pub record Met (f : List ℕ) (s : State) (at n : ℕ) (k : Kind) (fl : ℕ) : Type 0 where
   pub found : Found f (contextIn s) at n k fl
   pub low : 0 < at
@@ -71,9 +94,3 @@ placedAt f c at n = record { at = at; context = c; rec = recAt f at n }
 
 abbrev pub foundMeant : List ℕ → Context → ℕ → ℕ → Kind → Answer
 foundMeant f c at n k = seen (viewOf k (placedAt f c at n)) (record { at = at + n; context = next c at (some k) })
-
--- What a step comes to.
-abbrev pub SoughtIs : List ℕ → Cursor → Sought → Type 0
-SoughtIs f c Forged = refusedAt 16 Nowhere ≡ stepOf f (placeIn c)
-SoughtIs f c (Ended v) = ending v ≡ stepOf f (placeIn c)
-SoughtIs f c (Known at n k fl) = Met f (c .state) at n k fl × (foundMeant f (contextIn (c .state)) at n k ≡ stepOf f (placeIn c))

@@ -4,16 +4,17 @@ ghost use mathlib.Core.List.{List};
 ghost use Prim.Native.Nat.{ℕ};
 ghost use Rattle.cgx_spec.specs.Walking.{ending};
 ghost use Rattle.cgx_format_cursor.specs.Cursors.{contextIn};
-ghost use Rattle.cgx_read_walk.specs.Walk.{startOf, answerMeant, Left, Located, StepMade, SoughtIs, Met, foundMeant};
+ghost use Rattle.cgx_read_walk.specs.Walk.{startOf, answerMeant, Left, Located, StepMade, answerFrom, Reached, SoughtIs};
 use cgx_format_cursor::Cursor;
-use cgx_format_cursor::State;
+use cgx_format_cursor::allows;
 use cgx_format_cursor::is_forged;
 use cgx_format_cursor::next_state;
+use cgx_format_headers::Headed;
 use cgx_format_headers::RecordType;
+use cgx_format_headers::header_at;
 use cgx_format_headers::opening_fault;
 use cgx_format_kinds::View;
-use cgx_read_steps::Stepped;
-use cgx_read_steps::step_at;
+use cgx_format_records::record_fault;
 use cgx_read_views::view_at;
 use cgx_spec::Kind;
 use cgx_spec::Offset;
@@ -53,7 +54,6 @@ pub fn start(file: &[u8]) -> Started
 pub fn step(file: &[u8], place: Cursor) -> Outcome
     ensures { λ r. ⌜ StepMade (now (file .entry)) place r ⌝ }
 {
-    let s = place.state;
     let sought = seek(file, place);
     match sought {
         Sought::Forged => Outcome::Refused {
@@ -67,18 +67,18 @@ pub fn step(file: &[u8], place: Cursor) -> Outcome
             size,
             kind,
             flags,
-        } => known(file, s, at, size, kind, flags),
+        } => known(file, place, at, size, kind, flags),
     }
 }
 
 // ---- the next known record
 
-// What a step comes to before it reads any field.
+// What a step comes to before it judges a known record.
 pub enum Sought {
     // Refusal 16.
     Forged,
     Ended(Verdict),
-    // A good record of a known kind.
+    // A record of a known kind that lies in the file.
     Known {
         at: usize,
         size: usize,
@@ -95,13 +95,19 @@ pub fn seek(file: &[u8], place: Cursor) -> Sought
     }
     let s = place.state;
     let mut at = place.at;
+    if s.ended {
+        if at == file.len() {
+            return Sought::Ended(Verdict::Accepted);
+        }
+        return Sought::Ended(Verdict::Refused { number: 13, at });
+    }
     loop {
-        let found = step_at(file, s, at);
+        let found = header_at(file, at);
         match found {
-            Stepped::Stop(v) => {
-                return Sought::Ended(v);
+            Headed::Bad(number) => {
+                return Sought::Ended(Verdict::Refused { number, at });
             }
-            Stepped::Go(h) => {
+            Headed::Good(h) => {
                 let n = h.size;
                 let t = h.kind;
                 let flags = h.flags;
@@ -115,6 +121,9 @@ pub fn seek(file: &[u8], place: Cursor) -> Sought
                         };
                     }
                     RecordType::Unknown => {}
+                }
+                if !s.library {
+                    return Sought::Ended(Verdict::Refused { number: 6, at });
                 }
                 at += n;
             }
@@ -138,11 +147,22 @@ fn ended(v: Verdict, place: Cursor) -> Outcome
     }
 }
 
-// The good record of n bytes and kind k at an offset, and the place after it.
-fn known(file: &[u8], s: State, at: usize, n: usize, k: Kind, flags: u8) -> Outcome
-    requires { ⌜ Met (now file) s at n k flags ⌝ }
-    ensures { λ r. ⌜ (answerMeant (now (file .entry)) r ≡ foundMeant (now (file .entry)) (contextIn s) at n k) × ((p : Cursor) → Left p r) × Located (now (file .entry)) r ⌝ }
+// The record of n bytes and kind k at an offset, and the place after it; or the first of the rules 6 to 12 that it breaks.
+fn known(file: &[u8], place: Cursor, at: usize, n: usize, k: Kind, flags: u8) -> Outcome
+    requires { ⌜ Reached (now file) (place .state) at n k flags ⌝ }
+    ensures { λ r. ⌜ (answerMeant (now (file .entry)) r ≡ answerFrom (now (file .entry)) (contextIn (place .state)) at) × Left place r × Located (now (file .entry)) r ⌝ }
 {
+    let s = place.state;
+    let from = at + Kind::HEADER_SIZE;
+    let to = at + n;
+    let number = record_fault(allows(s, k), RecordType::Known(k), flags, &file[from..to]);
+    if number != 0 {
+        return Outcome::Refused {
+            number,
+            at: Offset::At(at),
+            place,
+        };
+    }
     let after = next_state(s, at, k);
     let v = view_at(file, at, at, n, k, flags, s, after);
     Outcome::Record(

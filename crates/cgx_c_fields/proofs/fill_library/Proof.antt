@@ -1,62 +1,48 @@
--- What is read is stored (`Fills`).
-use Rattle.cgx_c_fields.proofs.Fills.{library-filled}
+-- The rules, and then what is read is stored.
+use Rattle.cgx_spec.specs.declared.Kind.the-variants as kinds
+use Rattle.cgx_read_fields.proofs.Ready.{library-ready}
+use Rattle.cgx_c_fields.proofs.Fills.{unfilled, readable, filled-if}
 use borrow.Author.Needs.{needs}
 use Rattle.cgx_c_fields.proofs.fill_library.Statement.{statement}
 use Rattle.cgx_c_fields.proofs.fill_library.Tie as tie
 
-add-word-at : tie.Need-add-word-at
-add-word-at c = search needs
+add-from : tie.Need-add-from
+add-from c = search needs
 
-word-at-requires : tie.Need-word-at-requires
-word-at-requires c κs = search needs
+add-to : tie.Need-add-to
+add-to c = search needs
 
-add-word-at-2 : tie.Need-add-word-at-2
-add-word-at-2 c = search needs
+sub-body-fault : tie.Need-sub-body-fault
+sub-body-fault c = search needs
 
-word-at-requires-2 : tie.Need-word-at-requires-2
-word-at-requires-2 c κs = search needs
+part-body-fault-start : tie.Need-part-body-fault-start
+part-body-fault-start c = search needs
 
-add-date-at : tie.Need-add-date-at
-add-date-at c = search needs
+part-body-fault-end : tie.Need-part-body-fault-end
+part-body-fault-end c = search needs
 
-date-at-requires : tie.Need-date-at-requires
-date-at-requires c κs = search needs
-
-add-date-at-2 : tie.Need-add-date-at-2
-add-date-at-2 c = search needs
-
-date-at-requires-2 : tie.Need-date-at-requires-2
-date-at-requires-2 c κs = search needs
-
-add-text-at : tie.Need-add-text-at
-add-text-at c = search needs
-
-sub-text-at : tie.Need-sub-text-at
-sub-text-at c = search needs
-
-text-at-requires : tie.Need-text-at-requires
-text-at-requires c κs = search needs
-
-put-library-requires : tie.Need-put-library-requires
-put-library-requires c κs = search needs
+body-fault-requires : tie.Need-body-fault-requires
+body-fault-requires c κs = search needs
 
 returns : tie.Need-returns
-returns c = let a = c .before .before .before .before .before .before .before .before .args in library-filled (a .f .now) (a .at) (a .size) (a .w .now) _ (c .before .before .before .before .before .before .before .before .pre) _ _ _ _ _ (c .before .before .before .before .before .before .word-at .ensures) (c .before .before .before .before .before .word-at2 .ensures) (c .before .before .before .before .date-at .ensures) (c .before .before .before .date-at2 .ensures) (c .before .before .text-at .ensures) (c .put-library .ensures)
+returns c = unfilled kinds.Library (c .before .before .before .before .args .fl) (c .before .before .before .before .pre) (c .before .body-fault .ensures) (c .before .before .before .before .args .w .now) (c .if1 .taken)
+
+store-library-requires : tie.Need-store-library-requires
+store-library-requires c κs = library-ready (readable kinds.Library (c .before .before .before .before .before .args .fl) (c .before .before .before .before .before .pre) (c .before .before .body-fault .ensures) (c .before .if1 .left))
+
+returns-2 : tie.Need-returns-2
+returns-2 c = filled-if kinds.Library (c .before .before .before .before .before .before .args .fl) (c .before .before .before .before .before .before .pre) (c .before .before .before .body-fault .ensures) (c .before .before .if1 .left) (c .store-library .ensures (c .before .before .before .before .before .before .args .fl))
 
 pub fill-library-spec : {M : Type 1} → statement M
 fill-library-spec =
     tie.close
     (tie.spec
-    add-word-at
-    word-at-requires
-    add-word-at-2
-    word-at-requires-2
-    add-date-at
-    date-at-requires
-    add-date-at-2
-    date-at-requires-2
-    add-text-at
-    sub-text-at
-    text-at-requires
-    put-library-requires
-    returns)
+    add-from
+    add-to
+    sub-body-fault
+    part-body-fault-start
+    part-body-fault-end
+    body-fault-requires
+    returns
+    store-library-requires
+    returns-2)

@@ -1,64 +1,48 @@
--- What is read where the layout of the flags has it is stored (`Fills`).
-use native.Mathlib.Omega.{arith}
-use Rattle.cgx_read_fields.proofs.Srefs.{sref-room}
-use Rattle.cgx_c_fields.proofs.Fills.{sref-filled}
+-- The rules, and then what is read is stored.
+use Rattle.cgx_spec.specs.declared.Kind.the-variants as kinds
+use Rattle.cgx_read_fields.proofs.Srefs.{sref-ready}
+use Rattle.cgx_c_fields.proofs.Fills.{unfilled, readable, filled-if}
 use borrow.Author.Needs.{needs}
 use Rattle.cgx_c_fields.proofs.fill_sref.Statement.{statement}
 use Rattle.cgx_c_fields.proofs.fill_sref.Tie as tie
 
-sref-layout-requires : tie.Need-sref-layout-requires
-sref-layout-requires c κs = search needs
+add-from : tie.Need-add-from
+add-from c = search needs
 
-add-point-at : tie.Need-add-point-at
-add-point-at c = let s = c .before .before in let o = c .sref-layout .ensures .1 in let w = sref-room (s .args .fl) (s .args .f .now) (s .args .at) (s .args .size) (s .pre) (c .sref-layout .ensures) .name in let i = w .inside in let e = w .least in omega arith
+add-to : tie.Need-add-to
+add-to c = search needs
 
-point-at-requires : tie.Need-point-at-requires
-point-at-requires c κs = let s = c .before .before in let o = c .sref-layout .ensures .1 in let w = sref-room (s .args .fl) (s .args .f .now) (s .args .at) (s .args .size) (s .pre) (c .sref-layout .ensures) .name in let i = w .inside in let e = w .least in omega arith
+sub-body-fault : tie.Need-sub-body-fault
+sub-body-fault c = search needs
 
-add-word-if : tie.Need-add-word-if
-add-word-if c = let s = c .before .before .before in let o = c .before .sref-layout .ensures .1 in let w = sref-room (s .args .fl) (s .args .f .now) (s .args .at) (s .args .size) (s .pre) (c .before .sref-layout .ensures) .name in let i = w .inside in let e = w .least in omega arith
+part-body-fault-start : tie.Need-part-body-fault-start
+part-body-fault-start c = search needs
 
-word-if-requires : tie.Need-word-if-requires
-word-if-requires c κs = let s = c .before .before .before in let o = c .before .sref-layout .ensures .1 in let w = sref-room (s .args .fl) (s .args .f .now) (s .args .at) (s .args .size) (s .pre) (c .before .sref-layout .ensures) .name in let i = w .inside in let e = w .least in λ t. omega (arith, o .angle-in t)
+part-body-fault-end : tie.Need-part-body-fault-end
+part-body-fault-end c = search needs
 
-add-word-if-2 : tie.Need-add-word-if-2
-add-word-if-2 c = let s = c .before .before .before .before .before in let o = c .before .before .before .sref-layout .ensures .1 in let w = sref-room (s .args .fl) (s .args .f .now) (s .args .at) (s .args .size) (s .pre) (c .before .before .before .sref-layout .ensures) .name in let i = w .inside in let e = w .least in omega arith
-
-word-if-requires-2 : tie.Need-word-if-requires-2
-word-if-requires-2 c κs = let s = c .before .before .before .before .before in let o = c .before .before .before .sref-layout .ensures .1 in let w = sref-room (s .args .fl) (s .args .f .now) (s .args .at) (s .args .size) (s .pre) (c .before .before .before .sref-layout .ensures) .name in let i = w .inside in let e = w .least in λ t. omega (arith, o .magnif-in t)
-
-array-if-requires : tie.Need-array-if-requires
-array-if-requires c κs = let s = c .before .before .before .before .before .before in let o = c .before .before .before .before .sref-layout .ensures .1 in let w = sref-room (s .args .fl) (s .args .f .now) (s .args .at) (s .args .size) (s .pre) (c .before .before .before .before .sref-layout .ensures) .name in let i = w .inside in let e = w .least in (omega arith, λ t. omega (arith, o .array-in t))
-
-add-text-at : tie.Need-add-text-at
-add-text-at c = let s = c .before .before .before .before .before .before .before .before in let o = c .before .before .before .before .before .before .sref-layout .ensures .1 in let w = sref-room (s .args .fl) (s .args .f .now) (s .args .at) (s .args .size) (s .pre) (c .before .before .before .before .before .before .sref-layout .ensures) .name in let i = w .inside in let e = w .least in omega arith
-
-sub-text-at : tie.Need-sub-text-at
-sub-text-at c = let s = c .before .before .before .before .before .before .before .before .before in let o = c .before .before .before .before .before .before .before .sref-layout .ensures .1 in let w = sref-room (s .args .fl) (s .args .f .now) (s .args .at) (s .args .size) (s .pre) (c .before .before .before .before .before .before .before .sref-layout .ensures) .name in let i = w .inside in let e = w .least in omega arith
-
-text-at-requires : tie.Need-text-at-requires
-text-at-requires c κs = let s = c .before .before .before .before .before .before .before .before .before in sref-room (s .args .fl) (s .args .f .now) (s .args .at) (s .args .size) (s .pre) (c .before .before .before .before .before .before .before .sref-layout .ensures) .name
-
-put-sref-requires : tie.Need-put-sref-requires
-put-sref-requires c κs = search needs
+body-fault-requires : tie.Need-body-fault-requires
+body-fault-requires c κs = search needs
 
 returns : tie.Need-returns
-returns c = let s = c .before .before .before .before .before .before .before .before .before .before .before .before in sref-filled (s .args .w .now) _ (sref-room (s .args .fl) (s .args .f .now) (s .args .at) (s .args .size) (s .pre) (c .before .before .before .before .before .before .before .before .before .before .sref-layout .ensures)) _ _ _ _ _ (c .before .before .before .before .before .before .before .before .before .point-at .ensures) (c .before .before .before .before .before .before .before .before .word-if .ensures) (c .before .before .before .before .before .before .word-if2 .ensures) (c .before .before .before .before .before .array-if .ensures) (c .before .before .text-at .ensures) (c .put-sref .ensures)
+returns c = unfilled kinds.Sref (c .before .before .before .before .args .fl) (c .before .before .before .before .pre) (c .before .body-fault .ensures) (c .before .before .before .before .args .w .now) (c .if1 .taken)
+
+store-sref-requires : tie.Need-store-sref-requires
+store-sref-requires c κs = sref-ready (readable kinds.Sref (c .before .before .before .before .before .args .fl) (c .before .before .before .before .before .pre) (c .before .before .body-fault .ensures) (c .before .if1 .left))
+
+returns-2 : tie.Need-returns-2
+returns-2 c = filled-if kinds.Sref (c .before .before .before .before .before .before .args .fl) (c .before .before .before .before .before .before .pre) (c .before .before .before .body-fault .ensures) (c .before .before .if1 .left) (c .store-sref .ensures)
 
 pub fill-sref-spec : {M : Type 1} → statement M
 fill-sref-spec =
     tie.close
     (tie.spec
-    sref-layout-requires
-    add-point-at
-    point-at-requires
-    add-word-if
-    word-if-requires
-    add-word-if-2
-    word-if-requires-2
-    array-if-requires
-    add-text-at
-    sub-text-at
-    text-at-requires
-    put-sref-requires
-    returns)
+    add-from
+    add-to
+    sub-body-fault
+    part-body-fault-start
+    part-body-fault-end
+    body-fault-requires
+    returns
+    store-sref-requires
+    returns-2)

@@ -20,16 +20,16 @@ enum-known-sought-2 : tie.Need-enum-known-sought-2
 enum-known-sought-2 c = search needs
 
 known-requires : tie.Need-known-requires
-known-requires c κs = sought-known (c .before .before .before .before .before .before .args .file .now) (c .before .before .before .before .before .before .args .place) (c .before .before .before .seek .ensures) (c .before .sought2 .given .1) .0
+known-requires c κs = sought-known (c .before .before .before .before .before .args .file .now) (c .before .before .before .before .before .args .place) (c .before .before .before .seek .ensures) (c .before .sought2 .given .1) .0
 
 returns : tie.Need-returns
-returns c = sought-forged (c .before .before .before .before .before .args .file .now) (c .before .before .before .before .before .args .place) (c .before .before .seek .ensures) (c .enum-told .given .1)
+returns c = sought-forged (c .before .before .before .before .args .file .now) (c .before .before .before .before .args .place) (c .before .before .seek .ensures) (c .enum-told .given .1)
 
 returns-2 : tie.Need-returns-2
-returns-2 c = sought-ended (c .before .before .before .before .before .before .before .args .file .now) (c .before .before .before .before .before .before .before .args .place) (c .before .before .before .before .seek .ensures) (c .before .before .sought .given .1) (c .ended .ensures)
+returns-2 c = sought-ended (c .before .before .before .before .before .before .args .file .now) (c .before .before .before .before .before .before .args .place) (c .before .before .before .before .seek .ensures) (c .before .before .sought .given .1) (c .ended .ensures)
 
 returns-3 : tie.Need-returns-3
-returns-3 c = sought-made (c .before .before .before .before .before .before .before .args .file .now) (c .before .before .before .before .before .before .before .args .place) (c .before .before .before .before .seek .ensures) (c .before .before .sought2 .given .1) (c .known .ensures)
+returns-3 c = sought-made (c .before .before .before .before .before .before .args .file .now) (c .before .before .before .before .before .before .args .place) (c .before .before .before .before .seek .ensures) (c .before .before .sought2 .given .1) (c .known .ensures)
 
 pub step-spec : {M : Type 1} → statement M
 step-spec =
