@@ -13,7 +13,7 @@ use Rattle.cgx_write_given.specs.Writing.{firstWriter, Outcome, isTaken, Begun}
 abbrev pub writerIn : List ℕ → Writer
 writerIn w = record { cursor = cursorIn w }
 
--- The words of the writer, where w are those before: "A refusal appends nothing and hands back its old place", every bit of it.
+-- The words of the writer, where w are those before: a refusal "hands back its old place", every bit of it.
 unfoldable pub wordsAfter : List ℕ → Answer → List ℕ
 wordsAfter w a = cond (isTaken a) (cursorWords (a .writer .cursor)) w
 

@@ -38,8 +38,7 @@ same-length c = search needs
 
 returns : tie.Need-returns
 returns c =
-    let t = c .before .before .before .before .before .before .before .before .before .before .before .before .before .before .before in
-    let s = t .args in
+    let s = c .before .before .before .before .before .before .before .before .before .before .before .before .before .before .before .args in
     let z = s .sides .now in
     let v = c .before .before .before .before .before .before .writer-of .result in
     let q : allIn (s .buf .now) v _ ≡ _ = λ i. allIn (s .buf .now) v (frameCalls (back w32 {z = getD z 0 (pos 0)} (c .before .before .before .before .before .before .before .before .before .before .before .before .left .given) i) (back w32 {z = getD z 1 (pos 0)} (c .before .before .before .before .before .before .before .before .before .before .before .bottom .given) i) (back w32 {z = getD z 2 (pos 0)} (c .before .before .before .before .before .before .before .before .before .before .right .given) i) (back w32 {z = getD z 3 (pos 0)} (c .before .before .before .before .before .before .before .before .before .top .given) i) (s .label .now)) in

@@ -21,8 +21,7 @@ same-length c = search needs
 
 returns : tie.Need-returns
 returns c =
-    let t = c .before .before .before .before .before .before .before .before .before .before in
-    let s = t .args in
+    let s = c .before .before .before .before .before .before .before .before .before .before .args in
     called (λ (w : Writer). callIn (s .buf .now) w (givenEndlib)) (s .writer .now) (s .at .now) _ (c .settle .ensures) (c .before .before .before .before .before .before .writer-of .ensures) (c .before .before .before .before .before .endlib .ensures .0)
 
 pub cgx-write-endlib-spec : {M : Type 1} → statement M

@@ -30,8 +30,7 @@ same-length c = search needs
 
 returns : tie.Need-returns
 returns c =
-    let t = c .before .before .before .before .before .before .before .before .before .before .before .before .before in
-    let s = t .args in
+    let s = c .before .before .before .before .before .before .before .before .before .before .before .before .before .args in
     let v = c .before .before .before .before .before .before .before .before .writer-of .result in
     let q : callIn (s .buf .now) v _ ≡ _ = λ i. callIn (s .buf .now) v (givenLayer (c .before .before .before .before .before .before .before .layer-no .ensures i) (c .before .before .before .before .before .before .data-type .ensures i) (some (s .name .now))) in
     called (λ (w : Writer). callIn (s .buf .now) w (givenLayer (layerNoIn (s .id .now)) (dataTypeIn (s .id .now)) (some (s .name .now)))) (s .writer .now) (s .at .now) _ (c .settle .ensures) (c .before .before .before .before .before .before .before .before .writer-of .ensures) (c .before .before .before .before .before .named-layer .ensures .0 ∙ q)

@@ -21,8 +21,7 @@ same-length c = search needs
 
 returns : tie.Need-returns
 returns c =
-    let t = c .before .before .before .before .before .before .before .before .before .before in
-    let s = t .args in
+    let s = c .before .before .before .before .before .before .before .before .before .before .args in
     called (λ (w : Writer). callIn (s .buf .now) w (givenPoly (s .longs .now))) (s .writer .now) (s .at .now) _ (c .settle .ensures) (c .before .before .before .before .before .before .writer-of .ensures) (c .before .before .before .before .before .poly .ensures .0)
 
 pub cgx-write-poly-longs-spec : {M : Type 1} → statement M

@@ -26,8 +26,7 @@ same-length c = search needs
 
 returns : tie.Need-returns
 returns c =
-    let t = c .before .before .before .before .before .before .before .before .before .before .before .before .before .before in
-    let s = t .args in
+    let s = c .before .before .before .before .before .before .before .before .before .before .before .before .before .before .args in
     let v = c .before .before .before .before .before .before .writer-of .result in
     let q : callIn (s .buf .now) v _ ≡ _ = λ i. callIn (s .buf .now) v (let p = c .before .before .before .before .before .before .before .before .before .before .before .placement-of .ensures i in givenSref (s .flags) (p .at) (p .angle) (p .magnif) (p .grid) (s .name .now)) in
     called (λ (w : Writer). callIn (s .buf .now) w (givenPlaced (s .flags) (s .placement .now) (s .name .now))) (s .writer .now) (s .at .now) _ (c .settle .ensures) (c .before .before .before .before .before .before .writer-of .ensures) (c .before .before .before .before .before .sref .ensures .0 ∙ q)

@@ -29,8 +29,7 @@ same-length c = search needs
 
 returns : tie.Need-returns
 returns c =
-    let t = c .before .before .before .before .before .before .before .before .before .before .before .before .before in
-    let s = t .args in
+    let s = c .before .before .before .before .before .before .before .before .before .before .before .before .before .args in
     let v = c .before .before .before .before .before .before .before .before .writer-of .result in
     let q : callIn (s .buf .now) v _ ≡ _ = λ i. callIn (s .buf .now) v (givenStruct (c .before .before .before .before .before .before .before .date-of .ensures i) (c .before .before .before .before .before .before .date-of2 .ensures i) (s .name .now)) in
     called (λ (w : Writer). callIn (s .buf .now) w (givenStruct (dateIn (s .created .now)) (dateIn (s .modified .now)) (s .name .now))) (s .writer .now) (s .at .now) _ (c .settle .ensures) (c .before .before .before .before .before .before .before .before .writer-of .ensures) (c .before .before .before .before .before .structure .ensures .0 ∙ q)
