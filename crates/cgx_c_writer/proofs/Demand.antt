@@ -3,8 +3,9 @@ use mathlib.Core.Path.{_≡_, refl, sym, ap, subst, _∙_}
 use mathlib.Core.Bool.{Bool, true, false, cond}
 use mathlib.Core.List.{List, [], _∷_}
 use mathlib.Core.Option.{some}
-use Prim.Native.Nat.{ℕ, zero, suc}
+use Prim.Native.Nat.{ℕ, zero, suc, _≤_}
 use native.Mathlib.Omega.{arith}
+use lib.ListN.{length}
 use borrow.Author.Tests.{ne-eqb}
 use lib.Dec.{eqb·suc-zero}
 use Rattle.cgx_spec.specs.declared.Kind.{Kind}
@@ -24,11 +25,14 @@ use Rattle.cgx_c_places.proofs.Places.{cursor-read, cursor-back}
 use Rattle.buffers.specs.Put.{put}
 use Rattle.cgx_write_given.specs.declared.Writer.{Writer}
 use Rattle.cgx_write_given.specs.Given.{Given, written}
-use Rattle.cgx_write_given.specs.Writing.{offsetOf, contextOf, firstWriter, writerAfter, Outcome, isTaken, callIn, startIn}
+use Rattle.cgx_write_given.specs.Writing.{offsetOf, contextOf, firstWriter, writerAfter, Outcome, isTaken, callIn, startIn, History, calls, fromStart}
+use Rattle.cgx_write_given.specs.Typed.{AllWell}
+use Rattle.cgx_write_given.specs.Demands.{ReadBack}
+use Rattle.cgx_write_given.proofs.Promises.{writer-promises}
 use Rattle.cgx_write_given.proofs.Calls.{by-outcome}
 use Rattle.cgx_write_given.proofs.Unforged.{after-is}
 use Rattle.cgx_write_makers.specs.Makers.{inTurn, allIn}
-use Rattle.cgx_c_writer.specs.Lent.{writerIn, wordsAfter, startWords, lent, lentStart}
+use Rattle.cgx_c_writer.specs.Lent.{writerIn, wordsAfter, startWords, lent, lentStart, Held, heldAfter, heldAfterAll, heldAtStart}
 use Rattle.cgx_c_writer.specs.Demand.{LentDemand}
 use Rattle.cgx_c_writer.proofs.Lent.{refused, started, not-started, untold}
 
@@ -120,12 +124,46 @@ first-placed = ap cursorOf (sym first-in)
 start-left : (w : List ℕ) (n : ℕ) → n ≡ 0 → writerIn (startWords w n) ≡ firstWriter
 start-left w n e = ap writerIn (started w n e) ∙ back firstWriter first-placed
 
+-- ---- calls in a row
+
+abbrev InTurn : Held → List Given → Type 0
+InTurn m gs = let n = heldAfterAll m gs in let h = calls (m .buffer) (writerIn (m .writer)) gs in (writerIn (n .writer) ≡ h .writer) × (n .buffer ≡ h .buffer)
+
+in-turn : (gs : List Given) (m : Held) → InTurn m gs
+unfolding heldAfterAll calls
+in-turn [] m = (refl, refl)
+in-turn (g ∷ gs) m =
+    let o = callIn (m .buffer) (writerIn (m .writer)) g in
+    let r = in-turn gs (heldAfter m g) in
+    let q = call-left (m .buffer) (m .writer) g in
+    (r .0 ∙ ap (λ (v : Writer). calls (o .buffer) v gs .writer) q, r .1 ∙ ap (λ (v : Writer). calls (o .buffer) v gs .buffer) q)
+
+-- from a start on
+started-in-turn : (m : Held) (gs : List Given) → 4 ≤ length (m .buffer) → let n = heldAfterAll (heldAtStart m) gs in let h = fromStart (m .buffer) gs in
+    _≡_ {A = History} (record { taken = h .taken; writer = writerIn (n .writer); buffer = n .buffer }) h
+unfolding fromStart
+started-in-turn m gs e =
+    let r = in-turn gs (heldAtStart m) in
+    let q = start-left (m .writer) (startIn (m .buffer) .answer) (writer-promises .untouched .start-stores (m .buffer) e .0) in
+    let b = startIn (m .buffer) .buffer in
+    let w = r .0 ∙ ap (λ (v : Writer). calls b v gs .writer) q in
+    let d = r .1 ∙ ap (λ (v : Writer). calls b v gs .buffer) q in
+    λ i. record { taken = calls b firstWriter gs .taken; writer = w i; buffer = d i }
+
+read-back : (m : Held) (gs : List Given) → 4 ≤ length (m .buffer) → AllWell gs → let n = heldAfterAll (heldAtStart m) gs in contextOf (writerIn (n .writer)) .ended ≡ true
+    → ReadBack (record { taken = fromStart (m .buffer) gs .taken; writer = writerIn (n .writer); buffer = n .buffer })
+read-back m gs e t z =
+    let q = started-in-turn m gs e in
+    subst ReadBack (sym q) (writer-promises .round .any-calls (m .buffer) gs e t (sym (ap (λ (h : History). contextOf (h .writer) .ended) q) ∙ z))
+
 pub lent-demand : LentDemand
 lent-demand =
     record {
       start = λ buf w e. start-left w (startIn buf .answer) e;
       call = λ buf w at g. call-left buf w g;
       maker = λ buf w at gs. maker-left buf w gs;
+      in-turn = λ m gs. in-turn gs m;
+      read-back = read-back;
       refusal = λ w at o z. refused w (o .answer) z;
       start-refusal = λ buf w z. not-started w (startIn buf .answer) z;
       unnamed = λ w at o e. untold at (o .answer .at) e;

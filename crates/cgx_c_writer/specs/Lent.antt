@@ -1,13 +1,14 @@
 -- What a call of the writer leaves in a C caller's memory: the words of its writer, the number `at`, and the buffer. Definitions only.
 use mathlib.Core.Bool.{cond}
-use mathlib.Core.List.{List}
+use mathlib.Core.List.{List, [], _∷_}
 use Prim.Native.Nat.{ℕ}
 use lib.Dec.{eqb}
 use Rattle.cgx_format_cursor.specs.Cursors.{offsetIn}
 use Rattle.cgx_c_places.specs.Words.{cursorWords, cursorIn, toldAt}
 use Rattle.cgx_write_given.specs.declared.Writer.{Writer}
 use Rattle.cgx_write_given.specs.declared.Answer.{Answer}
-use Rattle.cgx_write_given.specs.Writing.{firstWriter, Outcome, isTaken, Begun}
+use Rattle.cgx_write_given.specs.Given.{Given}
+use Rattle.cgx_write_given.specs.Writing.{firstWriter, Outcome, isTaken, callIn, Begun, startIn}
 
 -- The writer that a caller's words say.
 abbrev pub writerIn : List ℕ → Writer
@@ -41,3 +42,22 @@ pub record LentStart : Type 0 where
 
 abbrev pub lentStart : List ℕ → Begun → LentStart
 lentStart w b = record { number = b .answer; writer = startWords w (b .answer); buffer = b .buffer }
+
+-- ---- calls one after another, each with what the one before it left
+
+-- The words of a writer, a number for offsets and a buffer, as a caller holds them.
+pub record Held : Type 0 where
+  pub writer : List ℕ
+  pub at : ℕ
+  pub buffer : List ℕ
+
+abbrev pub heldAfter : Held → Given → Held
+heldAfter m g = let l = lent (m .writer) (m .at) (callIn (m .buffer) (writerIn (m .writer)) g) in record { writer = l .writer; at = l .at; buffer = l .buffer }
+
+unfoldable pub heldAfterAll : Held → List Given → Held
+heldAfterAll m [] = m
+heldAfterAll m (g ∷ gs) = heldAfterAll (heldAfter m g) gs
+
+-- What a start leaves.
+abbrev pub heldAtStart : Held → Held
+heldAtStart m = let l = lentStart (m .writer) (startIn (m .buffer)) in record { writer = l .writer; at = m .at; buffer = l .buffer }
