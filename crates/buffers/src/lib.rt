@@ -88,15 +88,14 @@ pub fn put_each(out: &mut [u8], at: usize, src: &[u8])
     }
 }
 
-// A text with the one or two zero bytes that follow it.
+// A text with the one or two zero bytes that follow it. Two are stored, which after an odd length are the same: a branch would go wrong half of the time.
 pub fn put_text(out: &mut [u8], at: usize, text: &[u8])
     requires { ⌜ at + length (padded (now text)) ≤ length (now out) ⌝ }
     ensures { λ _. ⌜ now (out .exit) ≡ put (now (out .entry)) at (padded (now (text .entry))) ⌝ }
 {
     put_bytes(out, at, text);
     let end = at + text.len();
+    let last = at + text.len() / 2 * 2 + 1;
     out[end] = 0;
-    if text.len() % 2 == 0 {
-        out[end + 1] = 0;
-    }
+    out[last] = 0;
 }

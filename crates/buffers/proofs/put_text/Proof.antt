@@ -3,7 +3,7 @@ use mathlib.Core.Path.{ap, _∙_}
 use native.Mathlib.Omega.{arith}
 use lib.ListN.{length, length-set}
 use Rattle.buffers.proofs.Puts.{put-length}
-use Rattle.buffers.proofs.Padding.{length-padded, pad-odd, pad-even}
+use Rattle.buffers.proofs.Padding.{length-padded, pad-both}
 use borrow.Author.Needs.{needs}
 use Rattle.buffers.proofs.put_text.Statement.{statement}
 use Rattle.buffers.proofs.put_text.Tie as tie
@@ -14,40 +14,34 @@ put-bytes-requires c κs = omega (arith, length-padded (c .before .before .befor
 add-end : tie.Need-add-end
 add-end c = search needs
 
+mul-last : tie.Need-mul-last
+mul-last c = search needs
+
+add-last : tie.Need-add-last
+add-last c = search needs
+
+add-last-2 : tie.Need-add-last-2
+add-last-2 c = search needs
+
 slice-write-out : tie.Need-slice-write-out
 slice-write-out c =
-    let f = c .before .before in
-    let s = f .before .before .before .before in
+    let s = c .before .before .before .before .before .before in
     let a = s .args in
-    omega (arith, length-padded (a .text .now), ap length (f .put-bytes .ensures) ∙ put-length (a .out .now) (a .at) (a .text .now), s .pre)
-
-add-out : tie.Need-add-out
-add-out c = search needs
+    omega (arith, length-padded (a .text .now), ap length (c .before .before .put-bytes .ensures) ∙ put-length (a .out .now) (a .at) (a .text .now), s .pre)
 
 slice-write-out-2 : tie.Need-slice-write-out-2
 slice-write-out-2 c =
-    let f = c .before .before .before in
-    let s = f .before .before .before .before in
+    let s = c .before .before .before .before .before .before in
     let a = s .args in
-    simp length-set (omega (arith, length-padded (a .text .now), ap length (f .put-bytes .ensures) ∙ put-length (a .out .now) (a .at) (a .text .now), s .pre))
+    simp length-set (omega (arith, length-padded (a .text .now), ap length (c .before .before .put-bytes .ensures) ∙ put-length (a .out .now) (a .at) (a .text .now), s .pre))
 
 same-length : tie.Need-same-length
 same-length c = search needs
 
 returns : tie.Need-returns
 returns c =
-    let f = c .before .before .before in
-    let a = f .before .before .before .before .args in
-    pad-even (a .out .now) (f .put-bytes .last .0) (a .text .now) (a .at) (f .put-bytes .ensures) (c .if1 .taken)
-
-same-length-2 : tie.Need-same-length-2
-same-length-2 c = search needs
-
-returns-2 : tie.Need-returns-2
-returns-2 c =
-    let f = c .before .before .before in
-    let a = f .before .before .before .before .args in
-    pad-odd (a .out .now) (f .put-bytes .last .0) (a .text .now) (a .at) (f .put-bytes .ensures) (let n = c .if1 .left in omega arith)
+    let a = c .before .before .before .before .before .before .args in
+    pad-both (a .out .now) (c .before .before .put-bytes .last .0) (a .text .now) (a .at) (c .before .before .put-bytes .ensures)
 
 pub put-text-spec : {M : Type 1} → statement M
 put-text-spec =
@@ -55,10 +49,10 @@ put-text-spec =
     (tie.spec
     put-bytes-requires
     add-end
+    mul-last
+    add-last
+    add-last-2
     slice-write-out
-    add-out
     slice-write-out-2
     same-length
-    returns
-    same-length-2
-    returns-2)
+    returns)
