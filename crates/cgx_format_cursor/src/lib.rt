@@ -4,9 +4,7 @@ ghost use mathlib.Core.Option.{some};
 ghost use Prim.Native.Nat.{_<_};
 ghost use Rattle.cgx_spec.specs.Order.{start, allowed, next};
 ghost use Rattle.cgx_spec.specs.Walking.{firstPlace, forged, runUpTo};
-ghost use Rattle.cgx_format_headers.specs.Headers.{kindIn};
 ghost use Rattle.cgx_format_cursor.specs.Cursors.{runIn, contextIn, placeIn, stateOf, cursorOf, needsMet, noneAwaiting, firstOf, stateAfter};
-use cgx_format_headers::RecordType;
 use cgx_spec::Kind;
 
 // What has been read before a record.
@@ -88,16 +86,6 @@ fn run_up_to(at: usize, first: usize, count: usize) -> bool
 }
 
 // ---- rule 6
-
-// A record of any type: an unknown one needs only a LIBRARY before it.
-pub fn allows_type(s: State, t: RecordType) -> bool
-    ensures { λ r. ⌜ r ≡ allowed (contextIn s) (kindIn t) ⌝ }
-{
-    match t {
-        RecordType::Known(k) => allows(s, k),
-        RecordType::Unknown => s.library,
-    }
-}
 
 pub fn allows(s: State, k: Kind) -> bool
     ensures { λ r. ⌜ r ≡ allowed (contextIn s) (some k) ⌝ }

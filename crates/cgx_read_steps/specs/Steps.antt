@@ -1,4 +1,4 @@
--- What the answer of `step_at` means, in the terms of the format. Definitions only.
+-- What a step over one record comes to, in the terms of the format. Definitions only.
 use mathlib.Core.List.{List}
 use mathlib.Core.Option.{none}
 use mathlib.Core.Path.{_≡_}
