@@ -1,5 +1,5 @@
-/* Writes the files of tests/vectors, from standard input, into a folder as NAME.cgx, and prints a line for each: its name and
-   the verdict that is stored with it. The records that are stored, where they are, go into NAME.list as `cgx list -v` prints them. */
+/* Writes the files of tests/vectors, from standard input, into a folder as NAME.cgx, and prints a line for each: its name
+   and the verdict that is stored with it. Where its records are stored too, NAME.list is what `cgx list -v` should print. */
 #include <stdbool.h>
 #include <stdio.h>
 #include <stdlib.h>

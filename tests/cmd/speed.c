@@ -1,5 +1,5 @@
-/* How long `cgx check FILE` takes, from start to exit, beside cgx_check alone on the same bytes in memory; the two take turns.
-   It tells and judges nothing, since machines differ: build/cmd-speed FILE [ROUNDS]. */
+/* How long `cgx check FILE` takes, from start to exit, beside cgx_check alone on the same bytes in memory; the two take
+   turns. It tells and does not judge, since machines differ: build/cmd-speed FILE [ROUNDS]. */
 #define _XOPEN_SOURCE 700
 #include "cgx.h"
 
@@ -63,7 +63,8 @@ int main(int argc, char **argv) {
         if (command(argv[1]) != (answer == CGX_OK ? 0 : 1)) return 2;
         whole = least(whole, now() - begun);
     }
-    fprintf(stderr, "%zu bytes: cgx_check in memory %.2f ms, cgx check %.2f ms, %.3f times\n", size, alone, whole, whole / alone);
+    fprintf(stderr, "%zu bytes: cgx_check in memory %.2f ms, cgx check %.2f ms, %.3f times\n", size, alone, whole,
+        whole / alone);
     free(bytes);
     return 0;
 }

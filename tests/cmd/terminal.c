@@ -1,5 +1,5 @@
-/* Runs a command whose standard error is a terminal, and prints on standard error what appears there. With -a before the command its
-   standard output is that terminal too. The exit status is the command's. */
+/* Runs a command whose standard error is a terminal, and prints on standard error what appears there. With -a before the
+   command its standard output is that terminal too. The exit status is the command's. */
 #define _XOPEN_SOURCE 700
 #include <fcntl.h>
 #include <stdio.h>
