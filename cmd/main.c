@@ -2,7 +2,6 @@
 #include "command.h"
 #include "words.h"
 
-#include <fcntl.h>
 #include <stdio.h>
 #include <stdlib.h>
 #include <string.h>
@@ -109,18 +108,10 @@ static status word_main(const word *w, int count, char **arguments) {
     return result;
 }
 
-/* A standard descriptor that the caller has closed must not become that of a file which is opened later. Its use fails. */
-static void keep_standard_descriptors(void) {
-    int descriptor;
-    for (descriptor = 0; descriptor <= 2; descriptor++)
-        if (fcntl(descriptor, F_GETFD) < 0 && open("/dev/null", descriptor == 0 ? O_WRONLY : O_RDONLY) < 0) exit(TROUBLE);
-}
-
 int main(int argc, char **argv) {
     const char *first = argc > 1 ? argv[1] : "";
     const word *w = word_named(first);
     status result = ACCEPTED;
-    keep_standard_descriptors();
     if (!cgx_version_fits()) usage_trouble(NULL, "", "the library is of another version");
     if (w != NULL)
         result = word_main(w, argc - 2, argv + 2);

@@ -65,8 +65,12 @@ static bool write_pieces(int to, const uint8_t *bytes, uint64_t len) {
 static bool replace(const char *out, const struct stat *old, const uint8_t *bytes, uint64_t len) {
     int to = make_temporary(out), why;
     bool good = to >= 0 && write_pieces(to, bytes, len) && fchmod(to, mode_for(old)) == 0 && fsync(to) == 0;
-    good = good && close(to) == 0 && rename(temporary, out) == 0;
     why = errno;
+    if (to >= 0) close(to); /* what could be lost here was written by fsync */
+    if (good && rename(temporary, out) != 0) {
+        good = false;
+        why = errno;
+    }
     if (to >= 0 && !good) unlink(temporary);
     on_interruption(SIG_DFL);
     errno = why;
@@ -103,6 +107,7 @@ static status write_standard_output(const input *file, const uint8_t *bytes, uin
     struct stat out;
     const char *why = NULL;
     if (fstat(STDOUT_FILENO, &out) == 0 && same_file(&out, &file->about)) why = "is the input";
+    if (isatty(STDOUT_FILENO)) why = "is a terminal, which the bytes of a drawing would disturb; name a file with -o";
     begin_progress(file->name, "writing", len);
     if (why == NULL && !write_pieces(STDOUT_FILENO, bytes, len)) why = strerror(errno);
     end_progress();

@@ -37,6 +37,9 @@ try "by standard input" 2 "" "cgx: $w/in: is the input" "$cgx" normal - -o "$w/i
 appending() { "$cgx" normal "$w/in" >>"$w/in"; }
 try "by standard output" 2 "" "cgx: standard output: is the input" appending
 one "its input stays" untouched "$here"
+try "normal to a terminal" 2 "" \
+    $'cgx: standard output: is a terminal, which the bytes of a drawing would disturb; name a file with -o\r' \
+    build/cmd-terminal -a "$cgx" normal "$w/in"
 
 echo old >"$w/out"
 stays() { is "$w/out" old && left "$here"; }
@@ -52,7 +55,6 @@ try "normal to a directory" 2 "" "cgx: $w: Is a directory" "$cgx" normal "$w/in"
 try "normal to a folder that is not there" 2 "" "cgx: $w/none/out: No such file or directory" \
     "$cgx" normal "$w/in" -o "$w/none/out"
 try "normal to a name that is empty" 2 "" "cgx: No such file or directory" in_folder "$w" "$cgx" normal in -o ""
-try "normal to a device" 2 "" "cgx: /dev/full: not a regular file" "$cgx" normal "$w/in" -o /dev/full
 mkfifo "$t/pipe"
 try "normal to a FIFO" 2 "" "cgx: $t/pipe: not a regular file" "$cgx" normal "$w/in" -o "$t/pipe"
 one "nothing is left of all these" stays
@@ -69,6 +71,8 @@ for delay in 0.02 0.05 0.1 0.2 0.3; do
     rm -f "$w/new"
 done
 if as_nobody true 2>/dev/null; then
+    # Never as root: a program with this fault would put a file in the place of the machine's device.
+    try "normal to a device" 2 "" "cgx: /dev/full: not a regular file" as_nobody "$cgx" normal "$w/in" -o /dev/full
     chmod 777 "$w"
     chmod 444 "$w/out"
     try "normal over a file that is closed to writing" 2 "" "cgx: $w/out: Permission denied" \
