@@ -16,11 +16,11 @@ static uint32_t walked(const input *file, uint64_t *at) {
     return answer == CGX_DONE ? CGX_OK : answer;
 }
 
-static status check(const input *file, const char *const *given) {
+static status check(const input *file, const request *r) {
     bool by_walk = file->size >= LARGE && progress_is_shown();
     uint64_t at = 0;
     uint32_t answer;
-    (void)given;
+    (void)r;
     begin_progress(file->name, "checking", by_walk ? file->size : 0);
     answer = by_walk ? walked(file, &at) : cgx_check(file->bytes, file->size, &at);
     end_progress();
@@ -31,6 +31,10 @@ static status check(const input *file, const char *const *given) {
     return answer == CGX_OK ? ACCEPTED : REFUSED;
 }
 
+static status run(const request *r) {
+    return each_file(r, check);
+}
+
 const word word_check = {
     .name = "check",
     .arguments = "FILE..",
@@ -39,5 +43,5 @@ const word word_check = {
                "  FILE: ok\n"
                "  FILE: refused N at P: WORDS\n"
                "N is the number of the refusal and P the offset in the file that it is about.\n",
-    .run = check,
+    .run = run,
 };

@@ -27,7 +27,7 @@ typedef struct {
 bool open_input(const char *name, input *file);
 void close_input(input *file);
 
-/* ---- words (main.c) */
+/* ---- words (main.c): each is a file that defines word_NAME, and a line of words.h */
 
 typedef struct {
     char letter;       /* 0 where it has only a name */
@@ -38,26 +38,30 @@ typedef struct {
 
 enum { MOST_OPTIONS = 8 }; /* one less, since one without a name ends them */
 
+typedef struct request request;
+
 typedef struct {
     const char *name;
     const char *arguments;
     const char *summary; /* its line in `cgx --help` */
     const char *details; /* lines of `cgx NAME --help` */
     option options[MOST_OPTIONS];
-    bool one_file;
-    /* Is called for each file in turn. given[i] is the value of options[i], or "" where it takes none; NULL if not typed. */
-    status (*run)(const input *file, const char *const *given);
+    int files; /* how many it takes; 0: one or more */
+    status (*run)(const request *r);
 } word;
+
+/* Calls a function for each file in turn, and answers the greatest status. A file that cannot be read is TROUBLE. */
+status each_file(const request *r, status (*one)(const input *file, const request *r));
 
 /* ---- what was typed after a word (arguments.c) */
 
-typedef struct {
+struct request {
     const word *w;
-    const char *given[MOST_OPTIONS];
+    const char *given[MOST_OPTIONS]; /* of each option its value, or "" where it takes none; NULL where it was not typed */
     const char **files;
     int file_count;
     bool help;
-} request;
+};
 
 /* `files` must have room for all arguments. */
 void read_arguments(request *r, int count, char **arguments);

@@ -214,12 +214,16 @@ static void record(const input *file, const cgx_view *view, void *offsets) {
     field_lines(file, view);
 }
 
-static status dump(const input *file, const char *const *given) {
+static status dump(const input *file, const request *r) {
     put(file->prefix);
     put("cgx dump ");
     put_number(VERSION);
     end();
-    return walk(file, record, (void *)(uintptr_t)given[0]);
+    return walk(file, record, (void *)(uintptr_t)r->given[0]);
+}
+
+static status run(const request *r) {
+    return each_file(r, dump);
 }
 
 const word word_dump = {
@@ -232,5 +236,5 @@ const word word_dump = {
                "file's name. What has changed between two drawings, by cell:\n\n"
                "  diff -u -F '^STRUCT name' <(cgx dump a.cgx) <(cgx dump b.cgx)\n",
     .options = {{0, "offsets", NULL, "with a line `KIND at OFFSET` before each record"}},
-    .run = dump,
+    .run = run,
 };

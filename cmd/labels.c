@@ -41,10 +41,14 @@ static void record(const input *file, const cgx_view *view, void *state) {
     if (view->kind == CGX_TEXT) put_label(file, view, c);
 }
 
-static status labels(const input *file, const char *const *given) {
+static status labels(const input *file, const request *r) {
     context start = {{0, 0}, "", 0};
-    (void)given;
+    (void)r;
     return walk(file, record, &start);
+}
+
+static status run(const request *r) {
+    return each_file(r, labels);
 }
 
 const word word_labels = {
@@ -54,5 +58,5 @@ const word word_labels = {
     .details = "Prints a line for each TEXT, with tabs between: the name of its cell, the name\n"
                "of its layer, x, y, the label. A layer without a name is shown by its numbers,\n"
                "as 7/1. With several files each line begins with the file's name.\n",
-    .run = labels,
+    .run = run,
 };

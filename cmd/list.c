@@ -27,8 +27,12 @@ static void put_record(const input *file, const cgx_view *view, void *verbose) {
     put("\n");
 }
 
-static status list(const input *file, const char *const *given) {
-    return walk(file, put_record, (void *)(uintptr_t)given[0]);
+static status list(const input *file, const request *r) {
+    return walk(file, put_record, (void *)(uintptr_t)r->given[0]);
+}
+
+static status run(const request *r) {
+    return each_file(r, list);
 }
 
 const word word_list = {
@@ -38,5 +42,5 @@ const word word_list = {
     .details = "Prints a line for each record: OFFSET KIND. Unknown records are skipped.\n"
                "With several files each line begins with the file's name.\n",
     .options = {{'v', "verbose", NULL, "with the offsets of its cell, layer and properties"}},
-    .run = list,
+    .run = run,
 };

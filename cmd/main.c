@@ -70,29 +70,35 @@ static char *prefix_of(const char *name) {
     return form;
 }
 
-static status run_on(const request *r, const char *name) {
+static status one_file(const request *r, const char *name, status (*one)(const input *file, const request *r)) {
     char *prefix = NULL;
-    status result = TROUBLE;
+    status result;
     input file;
     if (!open_input(name, &file)) return TROUBLE;
     if (r->file_count > 1) file.prefix = prefix = prefix_of(name);
-    result = r->w->run(&file, r->given);
+    result = one(&file, r);
     flush_output();
     close_input(&file);
     free(prefix);
     return result;
 }
 
-static status run(const request *r) {
+status each_file(const request *r, status (*one)(const input *file, const request *r)) {
     status worst = ACCEPTED;
     int i;
-    if (r->file_count == 0) usage_trouble(r->w, r->w->name, "no file is named");
-    if (r->file_count > 1 && r->w->one_file) usage_trouble(r->w, r->w->name, "takes one file");
     for (i = 0; i < r->file_count; i++) {
-        status result = run_on(r, r->files[i]);
+        status result = one_file(r, r->files[i], one);
         if (result > worst) worst = result;
     }
     return worst;
+}
+
+static void check_file_count(const request *r) {
+    char takes[40];
+    int wanted = r->w->files;
+    if (r->file_count == 0) usage_trouble(r->w, r->w->name, "no file is named");
+    snprintf(takes, sizeof takes, wanted == 1 ? "takes one file" : "takes %d files", wanted);
+    if (wanted > 0 && r->file_count != wanted) usage_trouble(r->w, r->w->name, takes);
 }
 
 static status word_main(const word *w, int count, char **arguments) {
@@ -100,10 +106,12 @@ static status word_main(const word *w, int count, char **arguments) {
     status result = ACCEPTED;
     r.files = allocate(NULL, sizeof *r.files * ((uint64_t)count + 1));
     read_arguments(&r, count, arguments);
-    if (r.help)
+    if (r.help) {
         word_help(w);
-    else
-        result = run(&r);
+    } else {
+        check_file_count(&r);
+        result = w->run(&r);
+    }
     free(r.files);
     return result;
 }

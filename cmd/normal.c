@@ -116,7 +116,7 @@ static status write_standard_output(const input *file, const uint8_t *bytes, uin
     return TROUBLE;
 }
 
-static status normal(const input *file, const char *const *given) {
+static status normal(const input *file, const request *r) {
     uint8_t *bytes = allocate(NULL, file->size); /* it is never longer than the file */
     uint64_t len = 0, at = 0;
     uint32_t answer;
@@ -126,12 +126,16 @@ static status normal(const input *file, const char *const *given) {
     end_progress();
     if (answer != CGX_OK)
         complain(file->name, refusal(answer, at));
-    else if (given[0] == NULL || strcmp(given[0], "-") == 0)
+    else if (r->given[0] == NULL || strcmp(r->given[0], "-") == 0)
         result = write_standard_output(file, bytes, len);
     else
-        result = write_file(file, given[0], bytes, len);
+        result = write_file(file, r->given[0], bytes, len);
     free(bytes);
     return result;
+}
+
+static status run(const request *r) {
+    return each_file(r, normal);
 }
 
 const word word_normal = {
@@ -142,6 +146,6 @@ const word word_normal = {
                "records, with unused flags 0 and every real in its normal form. It is written\n"
                "whole or not at all, and never over FILE.\n",
     .options = {{'o', "output", "OUT", "to the file OUT, not to standard output"}},
-    .one_file = true,
-    .run = normal,
+    .files = 1,
+    .run = run,
 };

@@ -33,7 +33,7 @@ try "a FIFO, refused" 1 "$t/fifo: $bad_line" "" fed $bad
 mkdir "$t/folder"
 cp $good "$t/closed.cgx"
 chmod 000 "$t/closed.cgx"
-for word in check list dump normal labels; do
+for word in $tried; do
     try "$word: no such file" 2 "" "$missing" "$cgx" $word "$t/none"
     try "$word: a directory" 2 "" "cgx: $t/folder: Is a directory" "$cgx" $word "$t/folder"
     try "$word: an empty name" 2 "" "cgx: No such file or directory" "$cgx" $word ""

@@ -32,8 +32,8 @@ completes() {
 }
 mkdir "$t/completed"
 touch "$t/completed/a.cgx" "$t/completed/b c.cgx"
-completes "cgx " "--help --version check dump labels list normal"
-completes "cgx l" "labels list"
+completes "cgx " "$(printf '%s\n' --help --version $words | sort | paste -sd ' ')"
+completes "cgx la" "labels"
 completes "cgx check a" "a.cgx"
 completes "cgx check " "a.cgx b c.cgx"
 completes "cgx list -" "--help --verbose -v"

@@ -13,7 +13,7 @@ try "an option of another word" 2 "" "cgx: -v: no such option; see cgx check --h
 try "a value too many" 2 "" "cgx: --verbose=1: the option takes no value; see cgx list --help" "$cgx" list --verbose=1 x
 try "a value missing" 2 "" "cgx: -o: a value is missing; see cgx normal --help" "$cgx" normal x -o
 try "two files for normal" 2 "" "cgx: normal: takes one file; see cgx normal --help" "$cgx" normal x y
-for word in check list dump normal labels; do
+for word in $tried; do
     try "$word without a file" 2 "" "cgx: $word: no file is named; see cgx $word --help" "$cgx" $word
     try "$word with -- and no file" 2 "" "cgx: $word: no file is named; see cgx $word --help" "$cgx" $word --
 done
@@ -25,7 +25,7 @@ help_is_good() { # help_is_good WORD
         ! grep -qE '.{81}' "$t/out" && "$cgx" "$1" -h | cmp -s - "$t/out" && "$cgx" "$1" x --help | cmp -s - "$t/out"
 }
 one "--help has all words" [ "$words" = "$(sed -n 's/^ *WORD(\([a-z]*\)).*/\1/p' cmd/words.h)" ]
-one "--help has the words that are tried here" [ "$(echo $words)" = "check list dump normal labels" ]
+one "--help has the words that are tried here" [ "$(echo $words)" = "$tried" ]
 "$cgx" --help >"$t/help"
 "$cgx" -h >"$t/h"
 one "-h is --help" cmp "$t/help" "$t/h"
