@@ -2,7 +2,8 @@
 #ifndef COMMAND_H
 #define COMMAND_H
 
-#define _XOPEN_SOURCE 700 /* POSIX of 2008 */
+#define _XOPEN_SOURCE 700    /* POSIX of 2008 */
+#define _FILE_OFFSET_BITS 64 /* files above 2 GiB on every machine */
 
 #include "cgx.h"
 

@@ -77,7 +77,7 @@ static void put_double(double value) {
 }
 
 static void real_line(const input *file, uint32_t kind, const char *field, const cgx_real *real) {
-    char word[20];
+    char bytes[20];
     double value;
     begin(file, kind, field);
     if (cgx_real_double(real, &value) == CGX_OK) {
@@ -87,8 +87,8 @@ static void real_line(const input *file, uint32_t kind, const char *field, const
         value = about(real);
     }
     put_double(value);
-    snprintf(word, sizeof word, " %016" PRIx64, real->word);
-    put(word);
+    snprintf(bytes, sizeof bytes, " %016" PRIx64, real->word);
+    put(bytes);
     end();
 }
 

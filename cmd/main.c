@@ -130,5 +130,5 @@ int main(int argc, char **argv) {
     else
         usage_trouble(NULL, first, argc > 1 ? "no such word" : "no word is given");
     flush_output();
-    return result;
+    return (int)result;
 }
