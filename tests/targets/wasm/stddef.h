@@ -1,0 +1,6 @@
+/* What the kit's clang, which comes without headers, needs to compile digest.c. */
+#ifndef STDDEF_H
+#define STDDEF_H
+typedef __SIZE_TYPE__ size_t;
+#define NULL ((void *)0)
+#endif
