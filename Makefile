@@ -3,10 +3,14 @@
 #   make          build/libcgx.a, the command build/cgx and the example programs
 #   make test     the tests in C; the last line is `N passed, M failed`
 #   make test-cmd the tests of the command; likewise
+#   make targets  the library for other machines, at -O2 and -Oz: build/armv7-O2/libcgx.a and so on; or one of them: aarch64,
+#                 armv7, thumb (Cortex-M0), riscv32, wasm32 (also build/wasm32-O2/cgx.wasm)
+#   make test-targets  whether they answer as x86-64 does, and the goals for their size; counts as `make test` does
 #   make samples  the sample drawings and what `labels` prints of them, made anew under examples/
 #   make clean
 #
-# The archive is proved and built by `rt staticlib`, only where a source is newer than it is.
+# The archive is proved and built by `rt staticlib`, only where a source is newer than it is. The same run leaves the LLVM module that
+# it is made of, from which the other machines' archives are compiled.
 
 CFLAGS ?= -O2
 LDFLAGS ?= -Wl,--gc-sections
@@ -14,6 +18,8 @@ STRICT := -std=c99 -Wall -Wextra -Werror
 SANITIZE := -g -fsanitize=address,undefined -fno-sanitize-recover=all
 
 ARCHIVE := target/staticlib/libcgx_c.a
+MODULE := target/staticlib/cgx_c.bc
+TARGETS := aarch64 armv7 thumb riscv32 wasm32
 SOURCES := crates.txt $(shell find crates -name '*.rt' -o -name '*.antt')
 EXAMPLES := build/boxes build/labels build/samples
 TESTS := build/test build/test-sanitized build/labels-sanitized build/vectors build/freestanding build/stack
@@ -22,9 +28,9 @@ SUITE_HEADERS := $(wildcard tests/c/*.h) include/cgx.h
 
 all: build/libcgx.a build/cgx $(EXAMPLES)
 
-$(ARCHIVE): $(SOURCES)
-	rt staticlib cgx_c
-	touch $@
+$(ARCHIVE) $(MODULE) &: $(SOURCES)
+	tools/targets/get-module cgx_c $(MODULE)
+	touch $(ARCHIVE) $(MODULE)
 
 build/libcgx.a: $(ARCHIVE)
 	mkdir -p build
@@ -71,6 +77,19 @@ test: all $(TESTS)
 test-cmd: build/cgx build/cgx-sanitized build/cmd-mixed build/cmd-files build/cmd-terminal
 	bash tests/cmd/run
 
+targets: $(TARGETS)
+
+$(TARGETS): %: build/%-O2/libcgx.a build/%-Oz/libcgx.a
+
+build/%-O2/libcgx.a: $(MODULE) tools/targets/build-target
+	tools/targets/build-target $* -O2 $(MODULE) $(@D)
+
+build/%-Oz/libcgx.a: $(MODULE) tools/targets/build-target
+	tools/targets/build-target $* -Oz $(MODULE) $(@D)
+
+test-targets: targets build/libcgx.a
+	bash tests/targets/run
+
 samples: $(EXAMPLES)
 	mkdir -p examples/drawings
 	build/samples examples/drawings
@@ -81,5 +100,5 @@ samples: $(EXAMPLES)
 clean:
 	rm -rf build
 
-.PHONY: all test test-cmd samples clean
+.PHONY: all test test-cmd targets $(TARGETS) test-targets samples clean
 .DELETE_ON_ERROR:
