@@ -9,8 +9,8 @@
 #   make samples  the sample drawings and what `labels` prints of them, made anew under examples/
 #   make clean
 #
-# The archive is proved and built by `rt staticlib`, only where a source is newer than it is. The same run leaves the LLVM module that
-# it is made of, from which the other machines' archives are compiled.
+# The archive is proved and built by `rt staticlib`, only where a source is newer than it is. The same run leaves the LLVM
+# module that it is made of, from which the other machines' archives are compiled.
 
 CFLAGS ?= -O2
 LDFLAGS ?= -Wl,--gc-sections

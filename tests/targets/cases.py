@@ -1,6 +1,6 @@
 #!/usr/bin/env python3
-"""cases.py CASES NAMES [--most SIZE]: writes the vectors of tests/vectors and the sample drawings as digest.c reads them, and their names, a line each. With
---most, only those of up to SIZE bytes. Run it in the repository."""
+"""cases.py CASES NAMES [--most SIZE]: writes the vectors of tests/vectors and the sample drawings as digest.c reads them, and
+their names, a line each. With --most, only those of up to SIZE bytes. Run it in the repository."""
 import glob
 import re
 import struct

@@ -1,6 +1,7 @@
 #!/usr/bin/env python3
-"""change.py MODULE OUT.ll [NUMBER]: the text of an LLVM module in which one constant is another: the most that an SREF's flags can be, 15,
-is 14. With NUMBER, the constant of that comparison instead, counted from 0, is one more. It says which; with a NUMBER past the last it ends with status 3."""
+"""change.py MODULE OUT.ll [NUMBER]: the text of an LLVM module in which one constant is another: the most that an SREF's flags
+can be, 15, is 14. With NUMBER, the constant of that comparison, counted from 0, is one more instead. It says which; with a
+NUMBER past the last it ends with status 3."""
 import os
 import re
 import subprocess

@@ -1,8 +1,9 @@
-/* The digest program on a bare Cortex-M under qemu-system-arm: it reads the file `cases` and writes the file `answers` of the folder
-   in which qemu runs, by semihosting. A fault, such as an access that is not aligned, ends it with status 1. */
+/* The digest program on a bare Cortex-M under qemu-system-arm: it reads the file `cases` and writes the file `answers` of
+   the folder in which qemu runs, by semihosting. A fault, such as an access that is not aligned, ends it with status 1. */
 #include "port.h"
 
-enum { SYS_OPEN = 1, SYS_WRITE = 5, SYS_READ = 6, SYS_EXIT = 0x18, OPEN_RB = 1, OPEN_WB = 5, STOPPED_WELL = 0x20026, STOPPED_BADLY = 0x20023 };
+enum { SYS_OPEN = 1, SYS_WRITE = 5, SYS_READ = 6, SYS_EXIT = 0x18 };
+enum { OPEN_RB = 1, OPEN_WB = 5, STOPPED_WELL = 0x20026, STOPPED_BADLY = 0x20023 };
 
 __asm__(".text\n.syntax unified\n.thumb\n.globl semihosting\n.type semihosting, %function\n"
         "semihosting: bkpt 0xab\n bx lr\n");

@@ -1,5 +1,6 @@
-// node run.mjs CGX.wasm DIGEST.wasm CASES: runs the digest program, a module of its own in the memory of the library's, on the library's
-// file as it is built; writes the answers to standard output. That an import's type is not the export's is an error of WebAssembly itself.
+// node run.mjs CGX.wasm DIGEST.wasm CASES: runs the digest program, a module of its own in the memory of the library's, on
+// the library's file as it is built, and writes the answers to standard output. WebAssembly refuses an import whose type is
+// not the export's, so the header is tried, too.
 import { readFileSync, writeSync } from "node:fs";
 const [library, program, cases] = process.argv.slice(2).map((name) => readFileSync(name));
 
