@@ -48,7 +48,7 @@ def main():
                 if len(data) <= most:
                     stream.write(struct.pack("<6QII", *(place or [0] * 6), place is not None, len(data)) + data)
                     listed.write(name + "\n")
-        listed.write("calls\n")
+        listed.write("calls\nreals\n")
 
 
 main()

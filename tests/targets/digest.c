@@ -1,7 +1,7 @@
 /* Asks the library all that can be asked of each case that it reads, and writes a line a case: what the checker answers and its
    offset, how many records the walk has, the length of the normal form, how many bytes writing all records again gives, and a
-   digest of every byte that the library answers or leaves in what it is lent. The last line is on the makers and on calls that
-   no file leads to.
+   digest of every byte that the library answers or leaves in what it is lent. The last two lines are on calls that no file leads
+   to, among them the makers, and on reals and doubles.
 
    A case is six words of a place, whether a step from that place is all that is asked, the size, and so many bytes (cases.py).
    The same machine words are compared everywhere, so structs are digested as bytes: the header leaves no gaps in them. */
@@ -9,7 +9,7 @@
 #include "port.h"
 
 #ifndef ROOM
-#define ROOM 140000 /* bytes of the largest case, and some */
+#define ROOM 140000 /* bytes of the largest case, and some; also of two of the largest records */
 #endif
 
 enum { FILLER = 170, MARGIN = 8, MOST_CELLS = 12 };
@@ -261,6 +261,61 @@ static void add_layers(void) {
     }
 }
 
+/* Lists and texts that no view has. */
+static void add_absurd(void) {
+    static const uint64_t numbers[6] = {0, 1, 7, 16, 0x8000000000000000u, UINT64_MAX};
+    uint32_t first, count, i;
+    for (first = 0; first < 7; first++) {
+        for (count = 0; count < 7; count++) {
+            cgx_list list = {first < 6 ? numbers[first] : size, count < 6 ? numbers[count] : size};
+            cgx_text text = {list.first, list.count};
+            add(cgx_text_inside(file, size, &text));
+            for (i = 0; i < 6; i++) {
+                cgx_box box = {0, 0, 0, 0};
+                cgx_point point = {0, 0};
+                add(cgx_box_at(file, size, &list, numbers[i], &box));
+                add(cgx_point_at(file, size, &list, numbers[i], &point));
+                add_bytes(&box, sizeof box);
+                add_bytes(&point, sizeof point);
+            }
+        }
+    }
+}
+
+/* Records of about 65,534 bytes. The file is written over. */
+static void add_large(void) {
+    cgx_writer begun, w;
+    uint64_t at = UNNAMED, n;
+    uint32_t i;
+    cgx_real one = {0x4110000000000000u};
+    static const cgx_date date = {0, 1, 1, 0, 0, 0, 0};
+    static const cgx_layer_id id = {0, 0};
+    fill(file, (uint32_t)size);
+    for (i = 0; i < ROOM / 4; i++) longs[i] = 0;
+    add(cgx_write_start(out, MOST, &begun));
+    add(cgx_write_library(out, MOST, &begun, &at, 0, &one, &one, &date, &date, file, 0));
+    add(cgx_write_struct(out, MOST, &begun, &at, &date, &date, file, 0));
+    add(cgx_write_layer(out, MOST, &begun, &at, &id));
+    for (n = 65512; n <= 65534; n++) {
+        w = begun;
+        add(cgx_write_property(out, MOST, &w, &at, 0, file, n));
+        add(w.place.at);
+        w = begun;
+        add(cgx_write_text(out, MOST, &w, &at, 0, 0, 0, 0, file, n));
+        add(w.place.at);
+    }
+    for (n = 16378; n <= 16384; n++) {
+        w = begun;
+        add(cgx_write_box_longs(out, MOST, &w, &at, longs, n));
+        add(cgx_write_poly_longs(out, MOST, &w, &at, longs, n));
+        add(w.place.at);
+        w = begun;
+        add(cgx_write_wire_longs(out, MOST, &w, &at, 0, longs, n));
+        add(w.place.at);
+        add(at);
+    }
+}
+
 static void add_cells(void) {
     uint64_t cell;
     for (cell = 0; cell <= MOST_CELLS; cell++) {
@@ -312,6 +367,8 @@ static void digest_file(void) {
     put_number(written);
     add_layers();
     add_cells();
+    add_absurd();
+    if (size >= 65534) add_large();
     put_sum();
 }
 
@@ -334,32 +391,24 @@ static void digest_calls(void) {
     static const cgx_box sides = {30, -20, -10, 40};
     static const cgx_box boxes[2] = {{-5, -6, 7, 8}, {9, 9, 9, 9}};
     static const cgx_point points[4] = {{0, 0}, {10, 0}, {0, 2147483647}, {0, 0}};
-    static const cgx_real bad = {1u << 31}, zero = {0};
-    static const double doubles[] = {1e-9, 0.0, -0.0, -0.001, 1e300, 1e-300, 4503599627370497.0, 5e-324, 0.1};
-    cgx_placement placement = {{-7, 8}, {0}, {0}, 0, 2, {100, -100}, {-7, 9}};
+    static const cgx_real odd = {1u << 31}, zero = {0}, minus_zero = {0x8000000000000000u};
+    cgx_placement placement = {{-7, 8}, {0}, {0}, 1, 2, {100, -100}, {-7, 9}};
     cgx_writer w;
     cgx_real munit = {0}, uunit = {0};
     uint64_t at = UNNAMED;
-    uint32_t i;
     begin();
     add(cgx_version());
     add((uint64_t)cgx_version_fits());
-    for (i = 0; i < sizeof doubles / sizeof doubles[0]; i++) {
-        cgx_real real;
-        fill(&real, sizeof real);
-        add(cgx_real_from_double(&doubles[i], &real));
-        add(real.word);
-        add_real(&real);
-    }
     add(cgx_real_of(1e-9, &munit));
     add(cgx_real_of(0.001, &uunit));
     fill(out, MOST);
-    add(cgx_write_start(out, MOST, &w));
+    add(cgx_write_start(out, 4, &w));
 #define CALL(call) (add(call), add(at), add_bytes(&w, sizeof w), at = UNNAMED)
     CALL(cgx_write_endlib(out, MOST, &w, &at));
     CALL(cgx_write_library(out, MOST, &w, &at, 255, &munit, &zero, &date, &date, text, 3));
+    CALL(cgx_write_library(out, MOST, &w, &at, 255, &minus_zero, &uunit, &date, &date, text, 3));
     CALL(cgx_write_library(out, MOST, &w, &at, 255, &munit, &uunit, &date, &no_date, text, 3));
-    CALL(cgx_write_library(out, MOST, &w, &at, 255, &bad, &uunit, &date, &date, text, 2));
+    CALL(cgx_write_library(out, MOST, &w, &at, 255, &odd, &uunit, &date, &date, text, 2));
     CALL(cgx_write_struct(out, MOST, &w, &at, &date, &date, text, 5));
     CALL(cgx_write_struct(out, MOST, &w, &at, &date, &date, text, 1));
     CALL(cgx_write_cprpty(out, MOST, &w, &at, -2147483647 - 1, text, 0));
@@ -383,8 +432,14 @@ static void digest_calls(void) {
     CALL(cgx_write_layer(out, MOST, &w, &at, &id));
     CALL(cgx_write_text(out, MOST, &w, &at, 255, -5, 7, 2, text, 3));
     CALL(cgx_write_sref(out, MOST, &w, &at, 15, &placement, text, 3));
+    CALL(cgx_write_sref(out, MOST, &w, &at, 13, &placement, text, 3));
     placement.magnif = munit;
+    CALL(cgx_write_sref(out, MOST, &w, &at, 15, &placement, text, 3));
+    placement.cols = 0;
+    CALL(cgx_write_sref(out, MOST, &w, &at, 15, &placement, text, 3));
+    CALL(cgx_write_sref(out, MOST, &w, &at, 7, &placement, text, 3));
     placement.cols = 1;
+    placement.rows = -1;
     CALL(cgx_write_sref(out, MOST, &w, &at, 15, &placement, text, 3));
     CALL(cgx_write_sref(out, MOST, &w, &at, 16, &placement, text, 3));
     CALL(cgx_write_endlib(out, MOST, &w, &at));
@@ -396,6 +451,36 @@ static void digest_calls(void) {
     w.place.cell = w.place.at + 1;
     CALL(cgx_write_endlib(out, MOST, &w, &at));
 #undef CALL
+    put_sum();
+}
+
+/* Every exponent of a double and of a real, with mantissas about the limits of both. */
+static void digest_reals(void) {
+    static const uint64_t of_double[6] = {0, 1, 0xfffffffffffff, 0x8000000000000, 0x4000000000000, 0x2000000000001};
+    static const uint64_t of_real[9] = {0, 1, 0xffffffffffffff, 0x1fffffffffffff, 0x20000000000000, 0x20000000000001,
+        0x20000000000002, 0x10000000000000, 0x7fffffffffffff};
+    uint64_t sign, exponent;
+    uint32_t i;
+    begin();
+    for (sign = 0; sign < 2; sign++) {
+        for (exponent = 0; exponent < 2048; exponent++) {
+            for (i = 0; i < 6; i++) {
+                union {
+                    uint64_t bits;
+                    double value;
+                } given = {sign << 63 | exponent << 52 | of_double[i]};
+                cgx_real real = {UNNAMED};
+                add(cgx_real_from_double(&given.value, &real));
+                add(real.word);
+            }
+        }
+        for (exponent = 0; exponent < 128; exponent++) {
+            for (i = 0; i < 9; i++) {
+                cgx_real real = {sign << 63 | exponent << 56 | of_real[i]};
+                add_real(&real);
+            }
+        }
+    }
     put_sum();
 }
 
@@ -419,5 +504,6 @@ int digest(void) {
         }
     }
     digest_calls();
+    digest_reals();
     return 0;
 }
