@@ -1,6 +1,6 @@
 -- What a call of the writer leaves in a C caller's memory: the words of its writer, the number `at`, and the buffer. Definitions only.
 use mathlib.Core.Bool.{cond}
-use mathlib.Core.List.{List, [], _∷_}
+use mathlib.Core.List.{List, [], _∷_, _++_}
 use Prim.Native.Nat.{ℕ}
 use lib.Dec.{eqb}
 use Rattle.cgx_format_cursor.specs.Cursors.{offsetIn}
@@ -8,7 +8,9 @@ use Rattle.cgx_c_places.specs.Words.{cursorWords, cursorIn, toldAt}
 use Rattle.cgx_write_given.specs.declared.Writer.{Writer}
 use Rattle.cgx_write_given.specs.declared.Answer.{Answer}
 use Rattle.cgx_write_given.specs.Given.{Given}
-use Rattle.cgx_write_given.specs.Writing.{firstWriter, Outcome, isTaken, callIn, Begun, startIn}
+use Rattle.cgx_write_given.specs.Typed.{AllWell}
+use Rattle.cgx_write_given.specs.Writing.{firstWriter, Outcome, isTaken, Begun, startIn}
+use Rattle.cgx_write_makers.specs.Makers.{allIn}
 
 -- The writer that a caller's words say.
 abbrev pub writerIn : List ℕ → Writer
@@ -43,7 +45,7 @@ pub record LentStart : Type 0 where
 abbrev pub lentStart : List ℕ → Begun → LentStart
 lentStart w b = record { number = b .answer; writer = startWords w (b .answer); buffer = b .buffer }
 
--- ---- calls one after another, each with what the one before it left
+-- ---- calls and makers one after another, each with what the one before it left; a call gives one record, a maker several
 
 -- The words of a writer, a number for offsets and a buffer, as a caller holds them.
 pub record Held : Type 0 where
@@ -51,13 +53,25 @@ pub record Held : Type 0 where
   pub at : ℕ
   pub buffer : List ℕ
 
-abbrev pub heldAfter : Held → Given → Held
-heldAfter m g = let l = lent (m .writer) (m .at) (callIn (m .buffer) (writerIn (m .writer)) g) in record { writer = l .writer; at = l .at; buffer = l .buffer }
-
-unfoldable pub heldAfterAll : Held → List Given → Held
-heldAfterAll m [] = m
-heldAfterAll m (g ∷ gs) = heldAfterAll (heldAfter m g) gs
-
 -- What a start leaves.
 abbrev pub heldAtStart : Held → Held
 heldAtStart m = let l = lentStart (m .writer) (startIn (m .buffer)) in record { writer = l .writer; at = m .at; buffer = l .buffer }
+
+abbrev pub outcomeFrom : Held → List Given → Outcome
+outcomeFrom m gs = allIn (m .buffer) (writerIn (m .writer)) gs
+
+abbrev pub heldAfter : Held → List Given → Held
+heldAfter m gs = let l = lent (m .writer) (m .at) (outcomeFrom m gs) in record { writer = l .writer; at = l .at; buffer = l .buffer }
+
+unfoldable pub heldAfterAll : Held → List (List Given) → Held
+heldAfterAll m [] = m
+heldAfterAll m (gs ∷ gss) = heldAfterAll (heldAfter m gs) gss
+
+-- The records that are taken.
+unfoldable pub takenFrom : Held → List (List Given) → List Given
+takenFrom m [] = []
+takenFrom m (gs ∷ gss) = cond (isTaken (outcomeFrom m gs .answer)) gs [] ++ takenFrom (heldAfter m gs) gss
+
+abbrev pub EachWell : List (List Given) → Type 0
+EachWell [] = Unit {0}
+EachWell (gs ∷ gss) = AllWell gs × EachWell gss
