@@ -10,13 +10,11 @@ use borrow.Author.Tests.{ne-eqb, eqb-true, eqb-false}
 use lib.Dec.{eqb·suc-zero}
 use Rattle.cgx_spec.specs.declared.Kind.{Kind}
 use Rattle.cgx_spec.specs.declared.Kind.the-variants.{Library, Struct, Cprpty, Property, Layer, Box, Poly, Wire, Text, Sref, Endlib}
-use Rattle.cgx_spec.specs.declared.Place.{Place}
 use Rattle.cgx_spec.specs.declared.Run.{Run}
 use Rattle.cgx_spec.specs.declared.Run.the-variants.{Empty, Of}
 use Rattle.cgx_spec.specs.declared.Context.{Context}
-use Rattle.cgx_spec.specs.Order.{start, longer, next}
+use Rattle.cgx_spec.specs.Order.{longer, next}
 use Rattle.cgx_spec.specs.Records.{bytesOf}
-use Rattle.cgx_spec.specs.Walking.{firstPlace}
 use Rattle.cgx_format_cursor.specs.declared.Cursor.{Cursor}
 use Rattle.cgx_format_cursor.specs.Cursors.{runIn, runFirst, runCount, contextIn, placeIn, stateOf, cursorOf}
 use Rattle.cgx_format_cursor.proofs.Laws.{number-back, first-in}
@@ -33,7 +31,7 @@ use Rattle.cgx_write_given.proofs.Calls.{by-outcome}
 use Rattle.cgx_write_given.proofs.Unforged.{after-is}
 use Rattle.cgx_write_makers.specs.Makers.{inTurn, handedBack, allIn}
 use Rattle.cgx_write_makers.proofs.Demand.{makers-demand}
-use Rattle.cgx_c_writer.specs.Lent.{writerIn, wordsAfter, startWords, lent, lentStart, Held, heldAtStart, outcomeFrom, heldAfter, heldAfterAll, takenFrom, EachWell}
+use Rattle.cgx_c_writer.specs.Lent.{writerIn, wordsAfter, startWords, Held, heldAtStart, outcomeFrom, heldAfter, heldAfterAll, takenFrom, EachWell}
 use Rattle.cgx_c_writer.specs.Demand.{LentDemand}
 use Rattle.cgx_c_writer.proofs.Lent.{refused, started, not-started, untold}
 
@@ -82,9 +80,6 @@ after-placed w g = subst (λ (v : Writer). Placed (v .cursor)) (sym (after-is w 
 
 -- ---- calls
 
-call-placed : (buf : List ℕ) (w : Writer) (g : Given) → Placed (w .cursor) → Placed (callIn buf w g .answer .writer .cursor)
-call-placed buf w g h = by-outcome (λ o. Placed (o .answer .writer .cursor)) buf w g (λ e. after-placed w g) (λ m e z. h)
-
 turns-placed : (gs : List Given) (buf : List ℕ) (w : Writer) → Placed (w .cursor) → Placed (inTurn buf w gs .answer .writer .cursor)
 unfolding inTurn
 turns-placed [] buf w h = h
@@ -116,7 +111,7 @@ maker-left buf w gs =
     one true h = back (inTurn buf (writerIn w) gs .answer .writer) h
     one false h = refl
 
--- ---- all of it
+-- ---- the start
 
 first-placed : Placed (firstWriter .cursor)
 unfolding firstWriter
