@@ -39,6 +39,12 @@ cover b to from h =
     ∙ ap (λ (v : Bool). noZero (take from b) && v) (halves d n)
     ∙ halves b from
 
+-- the first n bytes, and the last ones from `from` on
+pub both-ends : (b : List ℕ) (n from : ℕ) → from ≤ n → {r s : Bool} → r ≡ noZero (take (n - 0) (drop 0 b)) → s ≡ noZero (take (length b - from) (drop from b)) → (r && s) ≡ noZero b
+both-ends b n from h qr qs =
+    let k : n - 0 ≡ n = omega arith in
+    ap₂ _&&_ (qr ∙ ap (λ (m : ℕ). noZero (take m b)) k) (qs ∙ ap noZero (sym (ending b from))) ∙ cover b n from h
+
 -- ---- the loop: there is no zero before at
 
 module _ (b : List ℕ) (at : ℕ) (none : noZero (take at b) ≡ true) where

@@ -83,6 +83,15 @@ unfolding good
 optional-some [] h e = absurd (h refl)
 optional-some (a ∷ b) h e = e
 
+-- ---- the lower of two bytes is zero where one of them is
+
+pub second-lower : (x y : ℕ) → y < x → not (eqb y 0) ≡ (not (eqb x 0) && not (eqb y 0))
+second-lower x y h = rw (ne-eqb x 0 (λ e. absurd (omega (arith, e)))) refl
+
+pub first-lower : (x y : ℕ) → x ≤ y → not (eqb x 0) ≡ (not (eqb x 0) && not (eqb y 0))
+first-lower zero y h = refl
+first-lower (suc n) y h = rw (ne-eqb y 0 (λ e. absurd (omega (arith, e)))) (sym (and-true (not (eqb (suc n) 0))))
+
 -- ---- the loop: what is found so far, and what the rest says
 
 module _ (b : List ℕ) (i : ℕ) (x a : Bool) (q : x ≡ (a && noZero (drop i b))) where

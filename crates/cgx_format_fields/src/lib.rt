@@ -1,8 +1,9 @@
 // The rules 9 to 12 of a record's fields, each on the bytes of the field.
 // The loops over bytes and over boxes have no early exit: several can then be taken at a time, and a refused file is read once only.
 ghost use mathlib.Core.Path.{_≡_};
-ghost use mathlib.Core.Bool.{_&&_};
+ghost use mathlib.Core.Bool.{not, _&&_};
 ghost use Prim.Native.Nat.{_+_, _%_, _≤_, _<_};
+ghost use lib.Dec.{eqb};
 ghost use lib.ListN.{length, take, drop};
 ghost use lib.Signed.{leZ};
 ghost use Rattle.cgx_spec.specs.Numbers.{longOf, longsOf};
@@ -101,23 +102,26 @@ pub fn optional_good(b: &[u8]) -> bool
     string_good(b)
 }
 
-// Four bytes or more go in pieces: their size is a constant at each call, so that a piece is compiled to whole vectors, and no byte is
+// Four bytes or more go in pieces, whose size is a constant at each call, so that a piece is compiled to whole vectors, and no byte is
 // handled alone.
 pub fn no_zero(b: &[u8]) -> bool
     ensures { λ r. ⌜ r ≡ noZero (now (b .entry)) ⌝ }
 {
     let n = b.len();
-    if 128 <= n {
-        return none_in_pieces(b, 128);
+    if 512 <= n {
+        return none_in_pieces(b, 512);
+    }
+    if 32 < n {
+        return none_in_pieces(b, 32);
     }
     if 16 <= n {
-        return none_in_pieces(b, 16);
+        return none_at_ends(b, 16);
     }
     if 8 <= n {
-        return none_in_pieces(b, 8);
+        return none_at_ends(b, 8);
     }
     if 4 <= n {
-        return none_in_pieces(b, 4);
+        return none_at_ends(b, 4);
     }
     none_in(b)
 }
@@ -131,12 +135,51 @@ fn none_in_pieces(b: &[u8], size: usize) -> bool
     let mut at = 0;
     while at < last {
         let end = at + size;
-        if !none_in(&b[at..end]) {
+        if !none_in_piece(&b[at..end]) {
             return false;
         }
         at = end;
     }
-    none_in(&b[last..])
+    none_in_piece(&b[last..])
+}
+
+// Two pieces, which may overlap, and no branch: the lengths of short texts are hard to foretell.
+fn none_at_ends(b: &[u8], size: usize) -> bool
+    requires { ⌜ (size ≤ length (now b)) × (length (now b) ≤ size + size) ⌝ }
+    ensures { λ r. ⌜ r ≡ noZero (now (b .entry)) ⌝ }
+{
+    let last = b.len() - size;
+    let first = none_in(&b[0..size]);
+    let second = none_in(&b[last..]);
+    first & second
+}
+
+// The lowest byte of a long piece takes less than a test of each byte; to find it in a short one takes more.
+fn none_in_piece(b: &[u8]) -> bool
+    ensures { λ r. ⌜ r ≡ noZero (now (b .entry)) ⌝ }
+{
+    if 512 <= b.len() {
+        return lowest(b) != 0;
+    }
+    none_in(b)
+}
+
+fn lowest(b: &[u8]) -> u8
+    ensures { λ r. ⌜ not (eqb r 0) ≡ noZero (now (b .entry)) ⌝ }
+{
+    let mut low: u8 = 255;
+    let mut i = 0;
+    while i < b.len() {
+        low = lower(low, b[i]);
+        i += 1;
+    }
+    low
+}
+
+fn lower(x: u8, y: u8) -> u8
+    ensures { λ r. ⌜ not (eqb r 0) ≡ (not (eqb x 0) && not (eqb y 0)) ⌝ }
+{
+    if y < x { y } else { x }
 }
 
 fn none_in(b: &[u8]) -> bool

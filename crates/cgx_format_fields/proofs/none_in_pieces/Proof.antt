@@ -25,21 +25,21 @@ loop-holds c = (omega arith, unfold noZero in refl)
 add-end : tie.Need-add-end Inv-loop μ-loop
 add-end c = omega arith
 
-sub-none-in : tie.Need-sub-none-in Inv-loop μ-loop
-sub-none-in c = omega arith
+sub-none-in-piece : tie.Need-sub-none-in-piece Inv-loop μ-loop
+sub-none-in-piece c = omega arith
 
-part-none-in-start : tie.Need-part-none-in-start Inv-loop μ-loop
-part-none-in-start c = omega arith
+part-none-in-piece-start : tie.Need-part-none-in-piece-start Inv-loop μ-loop
+part-none-in-piece-start c = omega arith
 
-part-none-in-end : tie.Need-part-none-in-end Inv-loop μ-loop
-part-none-in-end c = omega arith
+part-none-in-piece-end : tie.Need-part-none-in-piece-end Inv-loop μ-loop
+part-none-in-piece-end c = omega arith
 
-none-in-requires : tie.Need-none-in-requires Inv-loop μ-loop
-none-in-requires c κs = omega arith
+none-in-piece-requires : tie.Need-none-in-piece-requires Inv-loop μ-loop
+none-in-piece-requires c κs = omega arith
 
 returns : tie.Need-returns Inv-loop μ-loop
 returns c =
-    let f = c .before .none-in in
+    let f = c .before .none-in-piece in
     let l = c .before .before .before .before .loop in
     let a = c .before .before .before .before .before .before .args in
     piece-zero (a .b .now) (l .at) (l .inv .1) (a .size) (f .ensures) (not-true (f .result) (c .if1 .taken))
@@ -49,28 +49,28 @@ loop-less c = omega arith
 
 loop-again : tie.Need-loop-again Inv-loop μ-loop
 loop-again c =
-    let f = c .before .none-in in
+    let f = c .before .none-in-piece in
     let l = c .before .before .before .before .loop in
     let a = c .before .before .before .before .before .before .args in
     (omega arith, piece-on (a .b .now) (l .at) (l .inv .1) (a .size) (f .ensures) ∙ not-false (f .result) (c .if1 .left))
 
-sub-none-in-2 : tie.Need-sub-none-in-2 Inv-loop μ-loop
-sub-none-in-2 c = omega arith
+sub-none-in-piece-2 : tie.Need-sub-none-in-piece-2 Inv-loop μ-loop
+sub-none-in-piece-2 c = omega arith
 
-part-none-in-start-2 : tie.Need-part-none-in-start-2 Inv-loop μ-loop
-part-none-in-start-2 c = omega arith
+part-none-in-piece-start-2 : tie.Need-part-none-in-piece-start-2 Inv-loop μ-loop
+part-none-in-piece-start-2 c = omega arith
 
-part-none-in-end-2 : tie.Need-part-none-in-end-2 Inv-loop μ-loop
-part-none-in-end-2 c = omega arith
+part-none-in-piece-end-2 : tie.Need-part-none-in-piece-end-2 Inv-loop μ-loop
+part-none-in-piece-end-2 c = omega arith
 
-none-in-requires-2 : tie.Need-none-in-requires-2 Inv-loop μ-loop
-none-in-requires-2 c κs = omega arith
+none-in-piece-requires-2 : tie.Need-none-in-piece-requires-2 Inv-loop μ-loop
+none-in-piece-requires-2 c κs = omega arith
 
 returns-2 : tie.Need-returns-2 Inv-loop μ-loop
 returns-2 c =
     let l = c .before .before .before .loop in
     let a = c .before .before .before .before .before .args in
-    piece-last (a .b .now) (l .at) (l .inv .1) (length (a .b .now) - a .size) (omega arith) (c .none-in2 .ensures)
+    piece-last (a .b .now) (l .at) (l .inv .1) (length (a .b .now) - a .size) (omega arith) (c .none-in-piece2 .ensures)
 
 pub none-in-pieces-spec : {M : Type 1} → statement M
 none-in-pieces-spec =
@@ -81,15 +81,15 @@ none-in-pieces-spec =
     sub-last
     loop-holds
     add-end
-    sub-none-in
-    part-none-in-start
-    part-none-in-end
-    none-in-requires
+    sub-none-in-piece
+    part-none-in-piece-start
+    part-none-in-piece-end
+    none-in-piece-requires
     returns
     loop-less
     loop-again
-    sub-none-in-2
-    part-none-in-start-2
-    part-none-in-end-2
-    none-in-requires-2
+    sub-none-in-piece-2
+    part-none-in-piece-start-2
+    part-none-in-piece-end-2
+    none-in-piece-requires-2
     returns-2)
