@@ -1,3 +1,3 @@
-// The C library: each function is one call of the library with its answer as a plain struct. include/cgx.h is its manual.
+// The C library: each function is one call of the library, told to C as a number and in the memory that it lends. include/cgx.h is its manual.
 mod reading;
 mod writing;

@@ -12,10 +12,9 @@ use cgx_write_given::Grid;
 use cgx_write_given::Writer;
 use numbers::WordBytes;
 use numbers::short_of;
+use numbers::signed_long;
 use numbers::word_bytes;
 ghost use mathlib.Core.Path.{_≡_};
-ghost use Prim.Native.Nat.{_^_, _/_, _%_};
-ghost use Rattle.cgx_spec.specs.Numbers.{twos};
 ghost use Rattle.cgx_format_cursor.specs.Cursors.{offsetIn};
 ghost use Rattle.cgx_c_places.specs.Words.{toldAt};
 ghost use Rattle.cgx_c_writer.specs.Lent.{writerIn, wordsAfter, startWords};
@@ -157,22 +156,11 @@ fn point_of(w: u64) -> Point
 fn low_long(w: u64) -> i32
     ensures { λ r. ⌜ r ≡ lowLong w ⌝ }
 {
-    signed((w % 0x1_0000_0000) as u32)
+    signed_long((w % 0x1_0000_0000) as u32)
 }
 
 fn high_long(w: u64) -> i32
     ensures { λ r. ⌜ r ≡ highLong w ⌝ }
 {
-    signed((w / 0x1_0000_0000) as u32)
-}
-
-// Two's complement: a negative number is -1 less what its bits lack to all ones.
-fn signed(n: u32) -> i32
-    ensures { λ r. ⌜ r ≡ twos (2 ^ 31) n ⌝ }
-{
-    if n < 2147483648 {
-        n as i32
-    } else {
-        -1 - ((4294967295 - n) as i32)
-    }
+    signed_long((w / 0x1_0000_0000) as u32)
 }

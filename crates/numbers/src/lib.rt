@@ -133,7 +133,7 @@ fn signed_short(n: u16) -> i16
     }
 }
 
-fn signed_long(n: u32) -> i32
+pub fn signed_long(n: u32) -> i32
     ensures { λ r. ⌜ r ≡ twos (2 ^ 31) n ⌝ }
 {
     if n < 2147483648 {
