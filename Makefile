@@ -87,6 +87,11 @@ build/%-O2/libcgx.a: $(MODULE) tools/targets/build-target
 build/%-Oz/libcgx.a: $(MODULE) tools/targets/build-target
 	tools/targets/build-target $* -Oz $(MODULE) $(@D)
 
+# The checker by itself, for the least flash.
+thumb: build/thumb-check/libcgx.a
+build/thumb-check/libcgx.a: $(MODULE) tools/targets/build-target
+	tools/targets/build-target thumb -Oz $(MODULE) $(@D) cgx_check
+
 test-targets: targets build/libcgx.a
 	bash tests/targets/run
 
