@@ -37,9 +37,11 @@ try "by standard input" 2 "" "cgx: $w/in: is the input" "$cgx" normal - -o "$w/i
 appending() { "$cgx" normal "$w/in" >>"$w/in"; }
 try "by standard output" 2 "" "cgx: standard output: is the input" appending
 one "its input stays" untouched "$here"
-try "normal to a terminal" 2 "" \
-    $'cgx: standard output: is a terminal, which the bytes of a drawing would disturb; name a file with -o\r' \
-    build/cmd-terminal -a "$cgx" normal "$w/in"
+if has_terminal; then
+    try "normal to a terminal" 2 "" \
+        $'cgx: standard output: is a terminal, which the bytes of a drawing would disturb; name a file with -o\r' \
+        build/cmd-terminal -a "$cgx" normal "$w/in"
+fi
 
 echo old >"$w/out"
 stays() { is "$w/out" old && left "$here"; }

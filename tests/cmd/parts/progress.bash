@@ -1,4 +1,5 @@
 # Progress: only on a terminal, only after a second, and it is taken away.
+has_terminal || return
 
 # What ends a terminal's text: spaces over the line, and back to its beginning.
 taken_away() {
