@@ -1,10 +1,12 @@
 -- Fields that are read and stored are those of the record, by the kind that it is. Assumes nothing.
-use mathlib.Core.Path.{_≡_, refl, sym, ap, _∙_, subst}
-use mathlib.Core.List.{List, _∷_, _++_}
+use mathlib.Core.Path.{_≡_, refl, sym, ap, ap₂, _∙_, subst}
+use mathlib.Core.List.{List, [], _∷_, _++_}
 use mathlib.Core.Bool.{Bool, true, false, cond}
-use Prim.Native.Nat.{ℕ, _+_, _-_, _<_}
+use Prim.Native.Nat.{ℕ, _+_, _*_, _-_, _/_, _%_, _^_, _<_, _≤_}
+use native.Mathlib.Nat.{add-zero, zero-lt-suc, mod-lt, mod-eq-of-lt, mul-add-mod-self-right, mul-add-div-right, div-eq-of-lt, div-mul-le-self}
 use native.Mathlib.Omega.{arith}
-use lib.ListN.{take, drop}
+use lib.ListN.{length, take, drop, length-drop}
+use lib.Seq.{length-take-le, take-add, drop-drop}
 use lib.IntN.{ℤ}
 use Rattle.cgx_spec.specs.declared.Kind.{Kind}
 use Rattle.cgx_spec.specs.declared.Kind.the-variants as kinds
@@ -13,7 +15,9 @@ use Rattle.cgx_format_kinds.specs.declared.Fields.{Fields}
 use Rattle.cgx_format_kinds.specs.declared.Fields.the-variants as fields
 use Rattle.buffers.specs.Put.{put}
 use Rattle.buffers.proofs.Puts.{put-nil}
-use Rattle.cgx_spec.specs.Numbers.{longOf}
+use Rattle.cgx_spec.specs.Numbers.{Bytes, after, number, longOf}
+use Rattle.cgx_spec.proofs.Lists.{Bytes-take, Bytes-drop}
+use Rattle.cgx_spec.proofs.NumberLaws.{number-bound, untwos-twos}
 use Rattle.cgx_spec.specs.Fields.{date, string, value, pieces, lengthsFit, keeps}
 use Rattle.cgx_spec.specs.Kinds.{layout}
 use Rattle.cgx_spec.specs.Records.{Rule, rule, broken}
@@ -24,16 +28,18 @@ use Rattle.cgx_format_kinds.specs.declared.Point.{Point}
 use Rattle.cgx_format_kinds.specs.declared.OptionalReal.{OptionalReal}
 use Rattle.cgx_format_kinds.specs.declared.OptionalReal.the-variants.{Missing, Given}
 use Rattle.cgx_format_kinds.specs.declared.Array.{Array}
-use Rattle.cgx_format_kinds.specs.Meant.{spanText, dateNumbers, optionalValue}
+use Rattle.cgx_format_kinds.specs.declared.Array.the-variants.{Single, Of}
+use Rattle.cgx_format_kinds.specs.Meant.{spanText, dateNumbers, optionalValue, arrayValues}
 use Rattle.cgx_format_sref.specs.declared.SrefLayout.{SrefLayout}
 use Rattle.cgx_format_sref.specs.Layouts.{srefLayout}
-use Rattle.cgx_read_fields.specs.Views.{Readable, ReadAt, TextAt, StringAt, wordAt, realAt, AnswerAt, realIf, ArrayIs}
-use Rattle.cgx_read_fields.proofs.Parts.{real-value}
+use Rattle.cgx_read_fields.specs.Views.{Readable, ReadAt, TextAt, StringAt, wordAt, realAt, AnswerAt, realIf, arrayIf, ArrayIs}
+use Rattle.cgx_read_fields.proofs.Parts.{real-value, array-value}
 use Rattle.cgx_read_fields.proofs.Ready.{endlib-read}
 use Rattle.cgx_read_fields.proofs.Libraries.{library-by}
+use Rattle.cgx_read_fields.proofs.Labels.{text-by}
 use Rattle.cgx_read_fields.proofs.Srefs.{Room, sref-by}
-use Rattle.cgx_c_views.specs.ViewWords.{longBits, pointWord, dateWord, spanWords, arrayWords, optionalWord, fieldWords}
-use Rattle.cgx_c_fields.specs.Fill.{Filled, FilledAlike, FilledIf}
+use Rattle.cgx_c_views.specs.ViewWords.{longBits, pairWord, pointWord, dateWord, spanWords, arrayWords, optionalWord, fieldWords}
+use Rattle.cgx_c_fields.specs.Fill.{pairAt, Filled, FilledAlike, FilledIf}
 
 module _ {k j : Kind} {fl : ℕ} {f : List ℕ} {at size : ℕ} {w₀ w₁ : List ℕ} (e : k ≡ j) (fs : Fields) where
   pub filled : ReadAt j fl f at size fs → w₁ ≡ put w₀ 6 (fieldWords f fl at fs) → Filled k fl f at size w₀ w₁
@@ -109,17 +115,101 @@ unfolding optionalWord
 optional-is true f at = refl
 optional-is false f at = refl
 
-pub sref-filled : {fl : ℕ} {f : List ℕ} {at size : ℕ} {l : SrefLayout} (w₀ w₁ : List ℕ) → Room fl f at size l → (p : Point) (a m : ℕ) (d : Array) (t : TextSpan)
-    → (p .x ≡ longOf (take 4 (drop (at + 4) f))) × (p .y ≡ longOf (take 4 (drop (at + 4 + 4) f)))
-    → a ≡ cond (l .turned) (wordAt f (at + 12)) 0 → m ≡ cond (l .scaled) (wordAt f (at + l .magnif)) 0 → ArrayIs (l .repeated) f at (l .array) d
+-- columns, rows and points that may not be there, from byte o of a record on
+module _ (f : List ℕ) (at o : ℕ) where
+  abbrev array : Bool → Array
+  array b =
+      cond b
+      (Of (longOf (take 4 (drop (at + o) f))) (longOf (take 4 (drop (at + (o + 4)) f)))
+      (record { x = longOf (take 4 (drop (at + (o + 8)) f)); y = longOf (take 4 (drop (at + (o + 8) + 4) f)) })
+      (record { x = longOf (take 4 (drop (at + (o + 16)) f)); y = longOf (take 4 (drop (at + (o + 16) + 4) f)) }))
+      Single
+
+  array-read : (b : Bool) → (b ≡ true → at + (o + 24) ≤ length f) → ArrayIs b f at o (array b)
+  unfolding arrayValues arrayIf
+  array-read true h = array-value f at o (h refl) refl refl (refl, refl) (refl, refl)
+  array-read false h = λ vs. refl
+
+  array-is : (b : Bool) → cond b (pairAt f (at + o)) 0 ∷ cond b (pairAt f (at + (o + 8))) 0 ∷ cond b (pairAt f (at + (o + 16))) 0 ∷ [] ≡ arrayWords (array b)
+  unfolding arrayWords pointWord
+  array-is true =
+      let q : at + o + 4 ≡ at + (o + 4) = omega arith in
+      ap (λ (n : ℕ). pairWord (longOf (take 4 (drop (at + o) f))) (longOf (take 4 (drop n f))) ∷ pairAt f (at + (o + 8)) ∷ pairAt f (at + (o + 16)) ∷ []) q
+  array-is false = refl
+
+pub sref-filled : {fl : ℕ} {f : List ℕ} {at size : ℕ} {l : SrefLayout} (w₀ w₁ : List ℕ) → Room fl f at size l → (p a m n x u : ℕ) (t : TextSpan)
+    → p ≡ pairAt f (at + 4) → a ≡ cond (l .turned) (wordAt f (at + 12)) 0 → m ≡ cond (l .scaled) (wordAt f (at + l .magnif)) 0
+    → n ≡ cond (l .repeated) (pairAt f (at + l .array)) 0 → x ≡ cond (l .repeated) (pairAt f (at + (l .array + 8))) 0 → u ≡ cond (l .repeated) (pairAt f (at + (l .array + 16))) 0
     → (spanText f t ≡ value string (take (size - l .name) (drop (at + l .name) f))) × TextAt (at + l .name) (at + l .name + (size - l .name)) t
-    → w₁ ≡ put w₀ 6 (pointWord p ∷ a ∷ m ∷ arrayWords d ++ spanWords t)
+    → w₁ ≡ put w₀ 6 (p ∷ a ∷ m ∷ n ∷ x ∷ u ∷ spanWords t)
     → Filled kinds.Sref fl f at size w₀ w₁
-unfolding fieldWords
-sref-filled {fl} {f} {at} {size} {l} w₀ w₁ h p a m d t ep ea em ed et q =
+unfolding fieldWords pointWord
+sref-filled {fl} {f} {at} {size} {l} w₀ w₁ h p a m n x u t ep ea em en ex eu et q =
     let angle = optional (l .turned) f (at + 12) in
     let magnif = optional (l .scaled) f (at + l .magnif) in
-    let ma = em ∙ optional-is (l .scaled) f (at + l .magnif) ∙ ap (λ (x : SrefLayout). optionalWord f (at + x .magnif) magnif) (h .is) in
-    filled refl (fields.Sref (record { at = p; angle = angle; magnif = magnif; array = d; name = t }))
-    (sref-by h p angle magnif d t ep (optional-read (l .turned) f (at + 12)) (optional-read (l .scaled) f (at + l .magnif)) ed et)
-    (q ∙ rw (ea ∙ optional-is (l .turned) f (at + 12), ma) refl)
+    let d = array f at (l .array) (l .repeated) in
+    let point : Point = record { x = longOf (take 4 (drop (at + 4) f)); y = longOf (take 4 (drop (at + 4 + 4) f)) } in
+    let i = h .name .inside in
+    let e = h .name .least in
+    let o = h .laid in
+    let ma = em ∙ optional-is (l .scaled) f (at + l .magnif) ∙ ap (λ (y : SrefLayout). optionalWord f (at + y .magnif) magnif) (h .is) in
+    let w : n ∷ x ∷ u ∷ [] ≡ arrayWords d = rw (en, ex, eu) (array-is f at (l .array) (l .repeated)) in
+    filled refl (fields.Sref (record { at = point; angle = angle; magnif = magnif; array = d; name = t }))
+    (sref-by h point angle magnif d t (refl, refl) (optional-read (l .turned) f (at + 12)) (optional-read (l .scaled) f (at + l .magnif)) (array-read f at (l .array) (l .repeated) (λ y. omega (arith, o .array-in y))) et)
+    (q ∙ rw (ep, ea ∙ optional-is (l .turned) f (at + 12), ma) (ap (λ (ws : List ℕ). put w₀ 6 (pairAt f (at + 4) ∷ optionalWord f (at + 12) angle ∷ optionalWord f (at + srefLayout fl .magnif) magnif ∷ ws ++ spanWords t)) w))
+
+-- ---- a TEXT
+
+pub text-filled : (f : List ℕ) (at size : ℕ) (w₀ w₁ : List ℕ) → StringAt f (at + 16) (size - 16) → (p : ℕ) (z : ℤ) (t : TextSpan)
+    → p ≡ pairAt f (at + 4) → z ≡ longOf (take 4 (drop (at + 12) f))
+    → (spanText f t ≡ value string (take (size - 16) (drop (at + 16) f))) × TextAt (at + 16) (at + 16 + (size - 16)) t
+    → w₁ ≡ put w₀ 6 (p ∷ longBits z ∷ spanWords t)
+    → FilledAlike kinds.Text f at size w₀ w₁
+unfolding fieldWords pointWord
+text-filled f at size w₀ w₁ s p z t ep ez et q fl =
+    let point : Point = record { x = longOf (take 4 (drop (at + 4) f)); y = longOf (take 4 (drop (at + 4 + 4) f)) } in
+    filled refl (fields.Text (record { at = point; width = z; label = t })) (text-by f at size s point z t (refl, refl) ez et fl) (q ∙ rw ep refl)
+
+-- ---- two longs are the halves of a word
+
+after-append : (a : ℕ) (x y : List ℕ) → after a (x ++ y) ≡ after (after a x) y
+after-append a [] y = refl
+after-append a (b ∷ x) y = after-append (a * 256 + b) x y
+
+after-four : (a : ℕ) (y : List ℕ) → length y ≡ 4 → after a y ≡ a * 2 ^ 32 + number y
+after-four a [] h = absurd (omega arith)
+after-four a (b ∷ []) h = absurd (omega arith)
+after-four a (b ∷ c ∷ []) h = absurd (omega arith)
+after-four a (b ∷ c ∷ d ∷ []) h = absurd (omega arith)
+after-four a (b ∷ c ∷ d ∷ e ∷ []) h = omega arith
+after-four a (b ∷ c ∷ d ∷ e ∷ g ∷ y) h = absurd (omega arith)
+
+exchanged : (a b : ℕ) → b < 2 ^ 32 → (a * 2 ^ 32 + b) % 2 ^ 32 * 2 ^ 32 + (a * 2 ^ 32 + b) / 2 ^ 32 ≡ a + 2 ^ 32 * b
+exchanged a b h =
+    let q : (a * 2 ^ 32 + b) % 2 ^ 32 ≡ b = mul-add-mod-self-right a (2 ^ 32) b ∙ mod-eq-of-lt h in
+    let r : (a * 2 ^ 32 + b) / 2 ^ 32 ≡ a = mul-add-div-right {m = 2 ^ 32} (zero-lt-suc 4294967295) a b ∙ ap (λ (n : ℕ). a + n) (div-eq-of-lt h) ∙ add-zero a in
+    ap₂ (λ (m n : ℕ). m * 2 ^ 32 + n) q r ∙ omega arith
+
+sum-fits : (m d : ℕ) → m < 2 ^ 32 → d < 2 ^ 32 → m * 2 ^ 32 + d < 2 ^ 64
+sum-fits m d hm hd = omega arith
+
+pub exchange-fits : (w : ℕ) → w < 2 ^ 64 → w % 2 ^ 32 * 2 ^ 32 + w / 2 ^ 32 < 2 ^ 64
+exchange-fits w h =
+    let l : w / 2 ^ 32 * 2 ^ 32 ≤ w = div-mul-le-self w (2 ^ 32) in
+    sum-fits (w % 2 ^ 32) (w / 2 ^ 32) (mod-lt w (zero-lt-suc 4294967295)) (below (w / 2 ^ 32) w l h)
+  where
+    below : (d n : ℕ) → d * 2 ^ 32 ≤ n → n < 2 ^ 64 → d < 2 ^ 32
+    below d n l h = omega arith
+
+pub pair-is : (f : List ℕ) (at : ℕ) → Bytes f → at + 8 ≤ length f → {w : ℕ} → w ≡ wordAt f at → w % 2 ^ 32 * 2 ^ 32 + w / 2 ^ 32 ≡ pairAt f at
+unfolding pairWord longOf
+pair-is f at h l e =
+    let x = take 4 (drop at f) in
+    let y = take 4 (drop (at + 4) f) in
+    let lx : length x ≡ 4 = length-take-le 4 (drop at f) (omega (arith, length-drop at f)) in
+    let ly : length y ≡ 4 = length-take-le 4 (drop (at + 4) f) (omega (arith, length-drop (at + 4) f)) in
+    let bx : number x < 2 ^ 32 = number-bound x 4 (Bytes-take 4 (drop at f) (Bytes-drop at f h)) lx in
+    let by : number y < 2 ^ 32 = number-bound y 4 (Bytes-take 4 (drop (at + 4) f) (Bytes-drop (at + 4) f h)) ly in
+    let q = e ∙ ap number (take-add 4 4 (drop at f) ∙ ap (λ (z : List ℕ). x ++ take 4 z) (drop-drop 4 at f)) ∙ after-append 0 x y ∙ after-four (number x) y ly in
+    ap (λ (n : ℕ). n % 2 ^ 32 * 2 ^ 32 + n / 2 ^ 32) q ∙ exchanged (number x) (number y) by
+    ∙ sym (ap₂ (λ (m n : ℕ). m + 2 ^ 32 * n) (untwos-twos (2 ^ 31) (number x) bx) (untwos-twos (2 ^ 31) (number y) by))

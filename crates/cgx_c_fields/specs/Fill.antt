@@ -1,14 +1,20 @@
 -- The fields of a record in a C caller's view. Definitions only.
 use mathlib.Core.Path.{_≡_}
 use mathlib.Core.List.{List}
-use Prim.Native.Nat.{ℕ}
+use Prim.Native.Nat.{ℕ, _+_}
+use lib.ListN.{take, drop}
 use Rattle.cgx_spec.specs.declared.Kind.{Kind}
+use Rattle.cgx_spec.specs.Numbers.{longOf}
 use Rattle.cgx_spec.specs.Walking.{recAt}
 use Rattle.cgx_format_kinds.specs.declared.Fields.{Fields}
 use Rattle.cgx_format_bodies.specs.Bodies.{bodyFault}
 use Rattle.buffers.specs.Put.{put}
 use Rattle.cgx_read_fields.specs.Views.{ReadAt}
-use Rattle.cgx_c_views.specs.ViewWords.{fieldWords}
+use Rattle.cgx_c_views.specs.ViewWords.{pairWord, fieldWords}
+
+-- The word of the two longs from byte b on.
+abbrev pub pairAt : List ℕ → ℕ → ℕ
+pairAt f b = pairWord (longOf (take 4 (drop b f))) (longOf (take 4 (drop (b + 4) f)))
 
 -- Of the record of `size` bytes at an offset of f: from the words w₀ of a view to the words w₁.
 pub record Filled (k : Kind) (fl : ℕ) (f : List ℕ) (at size : ℕ) (w₀ w₁ : List ℕ) : Type 0 where

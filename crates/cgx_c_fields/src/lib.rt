@@ -16,28 +16,28 @@ use cgx_format_bodies::text_fault;
 use cgx_format_bodies::wire_fault;
 use cgx_format_records::body_fault;
 use cgx_format_sref::sref_layout;
-use cgx_read_fields::array_if;
 use cgx_read_fields::box_of;
 use cgx_read_fields::cprpty_of;
 use cgx_read_fields::date_at;
 use cgx_read_fields::layer_of;
-use cgx_read_fields::point_at;
 use cgx_read_fields::poly_of;
 use cgx_read_fields::property_of;
 use cgx_read_fields::struct_of;
 use cgx_read_fields::text_at;
-use cgx_read_fields::text_of;
 use cgx_read_fields::wire_of;
 use cgx_read_fields::word_at;
 use cgx_read_fields::word_if;
 use cgx_spec::Kind;
+use numbers::long_at;
 ghost use mathlib.Core.Path.{_≡_};
-ghost use Prim.Native.Nat.{_+_, _-_};
+ghost use mathlib.Core.Bool.{true, cond};
+ghost use Prim.Native.Nat.{_+_, _-_, _≤_};
+ghost use lib.ListN.{length};
 ghost use Rattle.cgx_spec.specs.Walking.{Held, recAt};
 ghost use Rattle.cgx_format_bodies.specs.Bodies.{bodyFault};
 ghost use Rattle.cgx_format_sref.specs.Layouts.{srefLayout};
 ghost use Rattle.cgx_read_fields.specs.Views.{StringAt};
-ghost use Rattle.cgx_c_fields.specs.Fill.{Filled, FilledAlike, FilledIf};
+ghost use Rattle.cgx_c_fields.specs.Fill.{pairAt, Filled, FilledAlike, FilledIf};
 
 // Of the record of `size` bytes at `at`, of this kind and with these flags: the first of the rules 8 to 12 that its body breaks, or 0.
 pub fn fill_fields(f: &[u8], w: &mut ViewWords, k: Kind, fl: u8, at: usize, size: usize) -> u8
@@ -193,7 +193,7 @@ fn fill_text(f: &[u8], w: &mut ViewWords, fl: u8, at: usize, size: usize) -> u8
     if fault != 0 {
         return fault;
     }
-    put_text(w, text_of(f, at, size));
+    store_text(f, w, at, size);
     0
 }
 
@@ -221,7 +221,7 @@ fn fill_endlib(f: &[u8], fl: u8, at: usize, size: usize) -> u8
     body_fault(Kind::Endlib, fl, &f[from..to])
 }
 
-// ---- the two kinds with reals: their words are stored, and no double is made
+// ---- kinds with reals, points or counts: these are stored as the words that they are, and no double is made
 
 fn store_library(f: &[u8], w: &mut ViewWords, at: usize, size: usize)
     requires { ⌜ StringAt (now f) (at + 36) (size - 36) ⌝ }
@@ -235,15 +235,47 @@ fn store_library(f: &[u8], w: &mut ViewWords, at: usize, size: usize)
     put_library(w, munit, uunit, created, modified, name);
 }
 
+fn store_text(f: &[u8], w: &mut ViewWords, at: usize, size: usize)
+    requires { ⌜ StringAt (now f) (at + 16) (size - 16) ⌝ }
+    ensures { λ _. ⌜ FilledAlike Kind.Text (now (f .entry)) at size (now (w .entry)) (now (w .exit)) ⌝ }
+{
+    let point = pair_at(f, at + 4);
+    let width = long_at(f, at + 12);
+    let label = text_at(f, at + 16, size - 16);
+    put_text(w, point, width, label);
+}
+
 fn store_sref(f: &[u8], w: &mut ViewWords, fl: u8, at: usize, size: usize)
     requires { ⌜ StringAt (now f) (at + srefLayout fl .name) (size - srefLayout fl .name) ⌝ }
     ensures { λ _. ⌜ Filled Kind.Sref fl (now (f .entry)) at size (now (w .entry)) (now (w .exit)) ⌝ }
 {
     let l = sref_layout(fl);
-    let point = point_at(f, at + 4);
+    let point = pair_at(f, at + 4);
     let angle = word_if(f, at + 12, l.turned);
     let magnif = word_if(f, at + l.magnif, l.scaled);
-    let array = array_if(f, at, l.array, l.repeated);
+    let counts = pair_if(f, at + l.array, l.repeated);
+    let across = pair_if(f, at + (l.array + 8), l.repeated);
+    let up = pair_if(f, at + (l.array + 16), l.repeated);
     let name = text_at(f, at + l.name, size - l.name);
-    put_sref(w, point, angle, magnif, array, name);
+    put_sref(w, point, angle, magnif, counts, across, up, name);
+}
+
+// Two longs as one word, the first in its low half: a point, or columns and rows. One read of eight bytes with the halves exchanged.
+fn pair_at(f: &[u8], at: usize) -> u64
+    requires { ⌜ at + 8 ≤ length (now f) ⌝ }
+    ensures { λ r. ⌜ r ≡ pairAt (now (f .entry)) at ⌝ }
+{
+    let w = word_at(f, at);
+    w % 0x1_0000_0000 * 0x1_0000_0000 + w / 0x1_0000_0000
+}
+
+// 0 for none.
+fn pair_if(f: &[u8], at: usize, there: bool) -> u64
+    requires { ⌜ (there ≡ true → at + 8 ≤ length (now f)) ⌝ }
+    ensures { λ r. ⌜ r ≡ cond there (pairAt (now (f .entry)) at) 0 ⌝ }
+{
+    if there {
+        return pair_at(f, at);
+    }
+    0
 }

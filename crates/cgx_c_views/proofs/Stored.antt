@@ -73,14 +73,10 @@ module _ (w : List ℕ) where
   unfolding put
   library-stored m u a b ws w₁ x y qx qy q = q ∙ rw (qy, qx) refl
 
-  pub sref-stored : (p a m : ℕ) (y : Array) (ws w₁ w₂ : List ℕ) (x : ℕ) → x ≡ p → w₁ ≡ put (set (set (set w 6 x) 7 a) 8 m) 9 (arrayWords y) → w₂ ≡ put w₁ 12 ws → w₂ ≡ put w 6 (p ∷ a ∷ m ∷ arrayWords y ++ ws)
-  unfolding put arrayWords
-  sref-stored p a m y ws w₁ w₂ x qx q₁ q₂ =
-      q₂ ∙ ap (λ (l : List ℕ). put l 12 ws) q₁ ∙ put-next (set (set (set w 6 x) 7 a) 8 m) 9 3 12 (arrayWords y) ws (three y) refl ∙ rw qx refl
-    where
-      three : (y : Array) → length (arrayWords y) ≡ 3
-      three Single = refl
-      three (ArrayOf c r a u) = refl
+  -- those of an SREF too
+  pub sref-stored : (p a m n x u : ℕ) (ws w₁ : List ℕ) → w₁ ≡ put (set (set (set (set (set (set w 6 p) 7 a) 8 m) 9 n) 10 x) 11 u) 12 ws → w₁ ≡ put w 6 (p ∷ a ∷ m ∷ n ∷ x ∷ u ∷ ws)
+  unfolding put
+  sref-stored p a m n x u ws w₁ q = q
 
   -- the six words that every kind has
   pub head-stored : (k : Kind) (fl at cell layer first count a b : ℕ) → a ≡ headWord k fl → b ≡ firstOf first count 0

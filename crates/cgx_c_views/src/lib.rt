@@ -1,24 +1,21 @@
 // Views in a C caller's memory, as words of eight bytes: a store for each kind, of no more than the kind has.
-use cgx_format_kinds::Array;
 use cgx_format_kinds::Date;
 use cgx_format_kinds::ItemList;
 use cgx_format_kinds::Layer;
 use cgx_format_kinds::Name;
-use cgx_format_kinds::Point;
 use cgx_format_kinds::Struct;
-use cgx_format_kinds::Text;
 use cgx_format_kinds::TextSpan;
 use cgx_format_kinds::Wire;
 use cgx_spec::Kind;
 use numbers::long_bits;
 use numbers::short_bits;
 ghost use mathlib.Core.Path.{_≡_};
-ghost use mathlib.Core.List.{_∷_, _++_};
+ghost use mathlib.Core.List.{_∷_};
 ghost use Prim.Native.Nat.{_+_, _^_, _<_, _≤_};
 ghost use Rattle.cgx_spec.specs.Kinds.{typeFor};
 ghost use Rattle.buffers.specs.Put.{put};
 ghost use Rattle.cgx_format_cursor.specs.Cursors.{offsetIn, runIn, firstOf};
-ghost use Rattle.cgx_c_views.specs.ViewWords.{longBits, shortBits, pairWord, pointWord, dateWord, spanWords, listWords, arrayWords, layerWord, layerWords, headWord, headWords};
+ghost use Rattle.cgx_c_views.specs.ViewWords.{longBits, shortBits, dateWord, spanWords, listWords, layerWord, layerWords, headWord, headWords};
 
 pub type ViewWords = [u64; 14];
 
@@ -155,25 +152,34 @@ pub fn put_wire(w: &mut ViewWords, x: Wire)
     put_list(w, 7, points);
 }
 
-pub fn put_text(w: &mut ViewWords, t: Text)
-    ensures { λ _. ⌜ now (w .exit) ≡ put (now (w .entry)) 6 (pointWord (t .at) ∷ longBits (t .width) ∷ spanWords (t .label)) ⌝ }
+// A point is given as its word.
+pub fn put_text(w: &mut ViewWords, point: u64, width: i32, label: TextSpan)
+    ensures { λ _. ⌜ now (w .exit) ≡ put (now (w .entry)) 6 (point ∷ longBits width ∷ spanWords label) ⌝ }
 {
-    let at = t.at;
-    let width = t.width;
-    let label = t.label;
-    w[6] = point_word(at);
+    w[6] = point;
     w[7] = long_word(width);
     put_span(w, 8, label);
 }
 
-// Reals are given as their words.
-pub fn put_sref(w: &mut ViewWords, at: Point, angle: u64, magnif: u64, array: Array, name: TextSpan)
-    ensures { λ _. ⌜ now (w .exit) ≡ put (now (w .entry)) 6 (pointWord at ∷ angle ∷ magnif ∷ arrayWords array ++ spanWords name) ⌝ }
+// All but the name are given as words.
+pub fn put_sref(
+    w: &mut ViewWords,
+    point: u64,
+    angle: u64,
+    magnif: u64,
+    counts: u64,
+    across: u64,
+    up: u64,
+    name: TextSpan,
+)
+    ensures { λ _. ⌜ now (w .exit) ≡ put (now (w .entry)) 6 (point ∷ angle ∷ magnif ∷ counts ∷ across ∷ up ∷ spanWords name) ⌝ }
 {
-    w[6] = point_word(at);
+    w[6] = point;
     w[7] = angle;
     w[8] = magnif;
-    put_array(w, array);
+    w[9] = counts;
+    w[10] = across;
+    w[11] = up;
     put_span(w, 12, name);
 }
 
@@ -193,42 +199,6 @@ pub fn put_list(w: &mut ViewWords, i: usize, r: ItemList)
 {
     w[i] = r.first as u64;
     w[i + 1] = r.count as u64;
-}
-
-fn put_array(w: &mut ViewWords, a: Array)
-    ensures { λ _. ⌜ now (w .exit) ≡ put (now (w .entry)) 9 (arrayWords a) ⌝ }
-{
-    match a {
-        Array::Single => {
-            w[9] = 0;
-            w[10] = 0;
-            w[11] = 0;
-        }
-        Array::Of {
-            cols,
-            rows,
-            across,
-            up,
-        } => {
-            w[9] = pair_word(cols, rows);
-            w[10] = point_word(across);
-            w[11] = point_word(up);
-        }
-    }
-}
-
-fn point_word(p: Point) -> u64
-    ensures { λ r. ⌜ r ≡ pointWord p ⌝ }
-{
-    let x = p.x;
-    let y = p.y;
-    pair_word(x, y)
-}
-
-fn pair_word(a: i32, b: i32) -> u64
-    ensures { λ r. ⌜ r ≡ pairWord a b ⌝ }
-{
-    long_word(a) + 0x1_0000_0000 * long_word(b)
 }
 
 fn date_word(d: Date) -> u64

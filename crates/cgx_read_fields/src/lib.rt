@@ -218,7 +218,7 @@ pub fn date_at(f: &[u8], at: usize) -> Date
     }
 }
 
-pub fn point_at(f: &[u8], at: usize) -> Point
+fn point_at(f: &[u8], at: usize) -> Point
     requires { ⌜ at + 8 ≤ length (now f) ⌝ }
     ensures { λ r. ⌜ (r .x ≡ longOf (take 4 (drop at (now (f .entry))))) × (r .y ≡ longOf (take 4 (drop (at + 4) (now (f .entry))))) ⌝ }
 {
@@ -284,7 +284,7 @@ pub fn word_if(f: &[u8], at: usize, there: bool) -> u64
 }
 
 // From byte o of the record at `at` on.
-pub fn array_if(f: &[u8], at: usize, o: usize, there: bool) -> Array
+fn array_if(f: &[u8], at: usize, o: usize, there: bool) -> Array
     requires { ⌜ (o ≤ 100) × (there ≡ true → at + (o + 24) ≤ length (now f)) ⌝ }
     ensures { λ r. ⌜ ArrayIs there (now (f .entry)) at o r ⌝ }
 {

@@ -1,10 +1,7 @@
 -- The rules, and then what is read is stored.
 use Rattle.cgx_spec.specs.declared.Kind.the-variants as kinds
-use mathlib.Core.Path.{refl}
-use Rattle.cgx_format_kinds.specs.declared.Fields.the-variants as fields
 use Rattle.cgx_read_fields.proofs.Ready.{text-ready}
-use Rattle.cgx_c_views.specs.ViewWords.{fieldWords}
-use Rattle.cgx_c_fields.proofs.Fills.{filled, unfilled, readable, filled-if}
+use Rattle.cgx_c_fields.proofs.Fills.{unfilled, readable, filled-if}
 use borrow.Author.Needs.{needs}
 use Rattle.cgx_c_fields.proofs.fill_text.Statement.{statement}
 use Rattle.cgx_c_fields.proofs.fill_text.Tie as tie
@@ -30,15 +27,11 @@ text-fault-requires c κs = search needs
 returns : tie.Need-returns
 returns c = unfilled kinds.Text (c .before .before .before .before .args .fl) (c .before .before .before .before .pre) (c .before .text-fault .ensures) (c .before .before .before .before .args .w .now) (c .if1 .taken)
 
-text-of-requires : tie.Need-text-of-requires
-text-of-requires c κs = text-ready (readable kinds.Text (c .before .before .before .before .before .args .fl) (c .before .before .before .before .before .pre) (c .before .before .text-fault .ensures) (c .before .if1 .left))
-
-put-text-requires : tie.Need-put-text-requires
-put-text-requires c κs = search needs
+store-text-requires : tie.Need-store-text-requires
+store-text-requires c κs = text-ready (readable kinds.Text (c .before .before .before .before .before .args .fl) (c .before .before .before .before .before .pre) (c .before .before .text-fault .ensures) (c .before .if1 .left))
 
 returns-2 : tie.Need-returns-2
-unfolding fieldWords
-returns-2 c = filled-if kinds.Text (c .before .before .before .before .before .before .before .args .fl) (c .before .before .before .before .before .before .before .pre) (c .before .before .before .before .text-fault .ensures) (c .before .before .before .if1 .left) (filled refl (fields.Text (c .before .text-of .result)) (c .before .text-of .ensures (c .before .before .before .before .before .before .before .args .fl)) (c .put-text .ensures))
+returns-2 c = filled-if kinds.Text (c .before .before .before .before .before .before .args .fl) (c .before .before .before .before .before .before .pre) (c .before .before .before .text-fault .ensures) (c .before .before .if1 .left) (c .store-text .ensures (c .before .before .before .before .before .before .args .fl))
 
 pub fill-text-spec : {M : Type 1} → statement M
 fill-text-spec =
@@ -51,6 +44,5 @@ fill-text-spec =
     part-text-fault-end
     text-fault-requires
     returns
-    text-of-requires
-    put-text-requires
+    store-text-requires
     returns-2)

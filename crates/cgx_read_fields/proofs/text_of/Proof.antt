@@ -1,14 +1,9 @@
 -- `cgx_read_fields::text_of` is right: each field is read where the layout has it. Assumes nothing.
-use mathlib.Core.Path.{refl, _∙_}
+use mathlib.Core.Path.{_∙_}
 use native.Mathlib.Omega.{arith}
-use Rattle.cgx_spec.specs.Fields.{width, value, values}
-use Rattle.cgx_spec.specs.Kinds.{layout}
-use Rattle.cgx_format_kinds.specs.Meant.{fieldValues, fieldsKind}
-use Rattle.cgx_read_fields.specs.Views.{FieldsAt, piecesAt, valuesAt}
-use Prim.Native.Nat.{_+_}
 use mir.Syntax.{w32}
 use Rattle.numbers.proofs.Signed.{back}
-use Rattle.cgx_read_fields.proofs.Parts.{_then_, long-value, second-value}
+use Rattle.cgx_read_fields.proofs.Labels.{text-by}
 use Rattle.cgx_read_fields.proofs.text_of.Statement.{statement}
 use Rattle.cgx_read_fields.proofs.text_of.Tie as tie
 
@@ -34,19 +29,9 @@ text-at-requires : tie.Need-text-at-requires
 text-at-requires c κs = c .before .before .before .pre
 
 returns : tie.Need-returns
-unfolding FieldsAt fieldValues fieldsKind valuesAt layout piecesAt width values value
-returns c fl =
+returns c =
     let s = c .before .before .before .before in
-    record {
-      meant =
-          long-value (s .args .f .now) (s .args .at + 4) (omega arith) (c .before .before .point-at .ensures .0)
-          then second-value (s .args .f .now) (s .args .at + 4) (s .args .at + 8) (omega arith) (omega arith) (c .before .before .point-at .ensures .1)
-          then long-value (s .args .f .now) (s .args .at + 12) (omega arith) (back w32 (c .before .long-at .ok) ∙ c .before .long-at .ensures)
-          then c .text-at .ensures .0
-          then refl;
-      kind-is = refl;
-      located = (c .text-at .ensures .1 .0, omega arith);
-    }
+    text-by (s .args .f .now) (s .args .at) (s .args .size) (s .pre) _ _ _ (c .before .before .point-at .ensures) (back w32 (c .before .long-at .ok) ∙ c .before .long-at .ensures) (c .text-at .ensures)
 
 pub text-of-spec : {M : Type 1} → statement M
 text-of-spec =
