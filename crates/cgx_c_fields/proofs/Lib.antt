@@ -1,2 +1,3 @@
--- `Fills`: of any kind.
+-- `Fills`: of any kind. `Pairs`: two longs as one word.
 pub mod Fills
+pub mod Pairs

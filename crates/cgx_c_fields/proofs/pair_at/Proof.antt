@@ -1,6 +1,6 @@
 -- The first four bytes are the high half of the word.
 use native.Mathlib.Omega.{arith}
-use Rattle.cgx_c_fields.proofs.Fills.{exchange-fits, pair-is}
+use Rattle.cgx_c_fields.proofs.Pairs.{exchange-fits, pair-is}
 use borrow.Author.Needs.{needs}
 use Rattle.cgx_c_fields.proofs.pair_at.Statement.{statement}
 use Rattle.cgx_c_fields.proofs.pair_at.Tie as tie
