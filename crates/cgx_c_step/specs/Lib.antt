@@ -1,2 +1,3 @@
--- What a step leaves in lent memory.
+-- What a step leaves in lent memory, and what steps in a row give.
 pub mod Lent
+pub mod Demand
