@@ -1,11 +1,10 @@
 // Eight-byte reals: what a real is answered with, whether it is above zero, and the normal real equal to it.
-// Each first of the word w that the eight bytes make, then of the bytes.
+// Each of the word w that the eight bytes make; the last two also of the bytes.
 ghost use mathlib.Core.Path.{_≡_};
 ghost use mathlib.Core.Bool.{false};
 ghost use Prim.Native.Nat.{_*_, _^_, _<_};
 ghost use lib.Ieee.{binary64, round};
 ghost use lib.ListN.{length};
-ghost use Rattle.cgx_spec.specs.Numbers.{number};
 ghost use Rattle.cgx_spec.specs.Reals.{answer, positive, normal, positiveReal, normalReal};
 use cgx_spec::Real;
 use numbers::WordBytes;
@@ -71,13 +70,6 @@ pub fn normal_real(w: u64) -> u64
 }
 
 // ---- of eight bytes
-
-pub fn read_real(b: &[u8]) -> Real
-    requires { ⌜ length (now b) ≡ 8 ⌝ }
-    ensures { λ r. ⌜ r ≡ answer (number (now (b .entry))) ⌝ }
-{
-    real_of(word_of(b))
-}
 
 pub fn positive_bytes(b: &[u8]) -> bool
     requires { ⌜ length (now b) ≡ 8 ⌝ }
