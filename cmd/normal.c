@@ -17,13 +17,18 @@ enum { INTERRUPTIONS = sizeof interruptions / sizeof interruptions[0] };
 static void interrupted(int number) {
     unlink(temporary);
     signal(number, SIG_DFL);
-    raise(number);
+    raise(number); /* it comes when this returns */
 }
 
+/* What is ignored stays so. A second interruption waits until the first is through: `timeout` sends two. */
 static void on_interruption(void (*handler)(int)) {
+    struct sigaction action = {.sa_handler = handler}, before;
     size_t i;
+    sigemptyset(&action.sa_mask);
+    for (i = 0; i < INTERRUPTIONS; i++) sigaddset(&action.sa_mask, interruptions[i]);
     for (i = 0; i < INTERRUPTIONS; i++)
-        if (signal(interruptions[i], handler) == SIG_IGN) signal(interruptions[i], SIG_IGN);
+        if (sigaction(interruptions[i], NULL, &before) == 0 && before.sa_handler != SIG_IGN)
+            sigaction(interruptions[i], &action, NULL);
     signal(SIGXFSZ, SIG_IGN); /* a file too large is then an error of write */
 }
 

@@ -72,6 +72,17 @@ for delay in 0.02 0.05 0.1 0.2 0.3; do
     one "an interruption after $delay s leaves nothing, or all" nothing_or_all
     rm -f "$w/new"
 done
+again_and_again() {
+    "$cgx" normal "$large" -o "$w/new" &
+    sleep "$1"
+    while kill -TERM $!; do :; done
+    wait $!
+}
+for delay in 0.02 0.05 0.1; do
+    again_and_again $delay 2>"$t/found"
+    one "interruptions again and again after $delay s leave nothing, or all" nothing_or_all
+    rm -f "$w/new"
+done
 if as_nobody true 2>/dev/null; then
     # Never as root: a program with this fault would put a file in the place of the machine's device.
     try "normal to a device" 2 "" "cgx: /dev/full: not a regular file" as_nobody "$cgx" normal "$w/in" -o /dev/full
