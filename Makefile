@@ -44,10 +44,10 @@ COMMAND := $(wildcard cmd/*.c)
 COMMAND_HEADERS := $(wildcard cmd/*.h) include/cgx.h
 
 build/cgx: $(COMMAND) $(COMMAND_HEADERS) build/libcgx.a
-	$(CC) $(STRICT) $(CFLAGS) $(CPPFLAGS) -Iinclude $(COMMAND) build/libcgx.a $(LDFLAGS) -o $@
+	$(CC) $(STRICT) $(CFLAGS) $(CPPFLAGS) -pthread -Iinclude $(COMMAND) build/libcgx.a $(LDFLAGS) -o $@
 
 build/cgx-sanitized: $(COMMAND) $(COMMAND_HEADERS) build/libcgx.a
-	$(CC) $(STRICT) $(SANITIZE) $(CPPFLAGS) -Iinclude $(COMMAND) build/libcgx.a -o $@
+	$(CC) $(STRICT) $(SANITIZE) $(CPPFLAGS) -pthread -Iinclude $(COMMAND) build/libcgx.a -o $@
 
 build/cmd-%: tests/cmd/%.c include/cgx.h build/libcgx.a
 	$(CC) $(STRICT) $(CFLAGS) $(CPPFLAGS) -Iinclude $< build/libcgx.a $(LDFLAGS) -o $@

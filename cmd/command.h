@@ -21,12 +21,21 @@ typedef struct {
     const uint8_t *bytes; /* not NULL, also where there are none */
     uint64_t size;
     bool mapped;
+    struct ahead *ahead; /* who maps it ahead, or NULL */
     struct stat about;
 } input;
 
 /* Maps a file, or reads it whole where it cannot be mapped. Complains and answers false where it can be neither. */
 bool open_input(const char *name, input *file);
 void close_input(input *file);
+
+/* ---- a mapped file's pages, brought in ahead of their use (ahead.c) */
+
+/* NULL where nothing is to be gained by it, or it cannot be done. */
+struct ahead *begin_ahead(uint8_t *bytes, uint64_t size);
+
+/* Nobody may read the bytes after it has begun. */
+void end_ahead(struct ahead *a);
 
 /* ---- words (main.c): each is a file that defines word_NAME, and a line of words.h */
 

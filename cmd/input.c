@@ -48,6 +48,7 @@ static bool map(int from, input *file) {
     prepare_for_loss(file->name);
     file->bytes = bytes;
     file->mapped = true;
+    file->ahead = begin_ahead(bytes, file->size);
     return true;
 }
 
@@ -96,6 +97,7 @@ bool open_input(const char *name, input *file) {
 }
 
 void close_input(input *file) {
+    end_ahead(file->ahead);
     if (file->mapped)
         munmap((void *)(uintptr_t)file->bytes, (size_t)file->size);
     else

@@ -19,7 +19,6 @@ use cgx_spec::Offset;
 use cgx_spec::Verdict;
 use numbers::long_at;
 
-#[repr(C)]
 pub struct Sides {
     pub left: i32,
     pub bottom: i32,

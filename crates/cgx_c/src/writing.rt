@@ -17,6 +17,7 @@ ghost use mathlib.Core.Option.{none, some};
 ghost use Rattle.cgx_c_writer.specs.Lent.{writerIn, lent, lentStart};
 ghost use Rattle.cgx_c_writer.specs.Parts.{dateIn, realIn, layerNoIn, dataTypeIn, givenPlaced, cardAround, frameAround};
 ghost use Rattle.cgx_write_given.specs.Given.{givenLibrary, givenStruct, givenCprpty, givenProperty, givenLayer, givenBox, givenPoly, givenWire, givenText, givenEndlib};
+ghost use Rattle.cgx_write_given.specs.Typed.{WellTyped, AllWell};
 ghost use Rattle.cgx_write_given.specs.Writing.{startIn, callIn};
 ghost use Rattle.cgx_write_makers.specs.Makers.{allIn};
 
@@ -42,6 +43,7 @@ pub extern "C" fn cgx_write_library(
     name: &[u8],
 ) -> u32
     ensures { λ r. ⌜ record { number = r; writer = now (writer .exit); at = now (at .exit); buffer = now (buf .exit) } ≡ lent (now (writer .entry)) (now (at .entry)) (callIn (now (buf .entry)) (writerIn (now (writer .entry))) (givenLibrary version (realIn (now (munit .entry))) (realIn (now (uunit .entry))) (dateIn (now (created .entry))) (dateIn (now (modified .entry))) (now (name .entry)))) ⌝ }
+    ensures typed { λ _. ⌜ WellTyped (givenLibrary version (realIn (now (munit .entry))) (realIn (now (uunit .entry))) (dateIn (now (created .entry))) (dateIn (now (modified .entry))) (now (name .entry))) ⌝ }
 {
     settle(
         cgx_write_calls::library(
@@ -69,6 +71,7 @@ pub extern "C" fn cgx_write_struct(
     name: &[u8],
 ) -> u32
     ensures { λ r. ⌜ record { number = r; writer = now (writer .exit); at = now (at .exit); buffer = now (buf .exit) } ≡ lent (now (writer .entry)) (now (at .entry)) (callIn (now (buf .entry)) (writerIn (now (writer .entry))) (givenStruct (dateIn (now (created .entry))) (dateIn (now (modified .entry))) (now (name .entry)))) ⌝ }
+    ensures typed { λ _. ⌜ WellTyped (givenStruct (dateIn (now (created .entry))) (dateIn (now (modified .entry))) (now (name .entry))) ⌝ }
 {
     settle(
         cgx_write_calls::structure(
@@ -92,6 +95,7 @@ pub extern "C" fn cgx_write_cprpty(
     value: &[u8],
 ) -> u32
     ensures { λ r. ⌜ record { number = r; writer = now (writer .exit); at = now (at .exit); buffer = now (buf .exit) } ≡ lent (now (writer .entry)) (now (at .entry)) (callIn (now (buf .entry)) (writerIn (now (writer .entry))) (givenCprpty number (now (value .entry)))) ⌝ }
+    ensures typed { λ _. ⌜ WellTyped (givenCprpty number (now (value .entry))) ⌝ }
 {
     settle(
         cgx_write_calls::cprpty(buf, writer_of(writer), number, value),
@@ -109,6 +113,7 @@ pub extern "C" fn cgx_write_property(
     value: &[u8],
 ) -> u32
     ensures { λ r. ⌜ record { number = r; writer = now (writer .exit); at = now (at .exit); buffer = now (buf .exit) } ≡ lent (now (writer .entry)) (now (at .entry)) (callIn (now (buf .entry)) (writerIn (now (writer .entry))) (givenProperty number (now (value .entry)))) ⌝ }
+    ensures typed { λ _. ⌜ WellTyped (givenProperty number (now (value .entry))) ⌝ }
 {
     settle(
         cgx_write_calls::property(buf, writer_of(writer), number, value),
@@ -125,6 +130,7 @@ pub extern "C" fn cgx_write_layer(
     id: &[i16; 2],
 ) -> u32
     ensures { λ r. ⌜ record { number = r; writer = now (writer .exit); at = now (at .exit); buffer = now (buf .exit) } ≡ lent (now (writer .entry)) (now (at .entry)) (callIn (now (buf .entry)) (writerIn (now (writer .entry))) (givenLayer (layerNoIn (now (id .entry))) (dataTypeIn (now (id .entry))) none)) ⌝ }
+    ensures typed { λ _. ⌜ WellTyped (givenLayer (layerNoIn (now (id .entry))) (dataTypeIn (now (id .entry))) none) ⌝ }
 {
     settle(
         cgx_write_calls::layer(buf, writer_of(writer), layer_no(id), data_type(id)),
@@ -142,6 +148,7 @@ pub extern "C" fn cgx_write_named_layer(
     name: &[u8],
 ) -> u32
     ensures { λ r. ⌜ record { number = r; writer = now (writer .exit); at = now (at .exit); buffer = now (buf .exit) } ≡ lent (now (writer .entry)) (now (at .entry)) (callIn (now (buf .entry)) (writerIn (now (writer .entry))) (givenLayer (layerNoIn (now (id .entry))) (dataTypeIn (now (id .entry))) (some (now (name .entry))))) ⌝ }
+    ensures typed { λ _. ⌜ WellTyped (givenLayer (layerNoIn (now (id .entry))) (dataTypeIn (now (id .entry))) (some (now (name .entry)))) ⌝ }
 {
     settle(
         cgx_write_calls::named_layer(buf, writer_of(writer), layer_no(id), data_type(id), name),
@@ -158,6 +165,7 @@ pub extern "C" fn cgx_write_box_longs(
     longs: &[i32],
 ) -> u32
     ensures { λ r. ⌜ record { number = r; writer = now (writer .exit); at = now (at .exit); buffer = now (buf .exit) } ≡ lent (now (writer .entry)) (now (at .entry)) (callIn (now (buf .entry)) (writerIn (now (writer .entry))) (givenBox (now (longs .entry)))) ⌝ }
+    ensures typed { λ _. ⌜ WellTyped (givenBox (now (longs .entry))) ⌝ }
 {
     settle(
         cgx_write_calls::boxes(buf, writer_of(writer), longs),
@@ -174,6 +182,7 @@ pub extern "C" fn cgx_write_poly_longs(
     longs: &[i32],
 ) -> u32
     ensures { λ r. ⌜ record { number = r; writer = now (writer .exit); at = now (at .exit); buffer = now (buf .exit) } ≡ lent (now (writer .entry)) (now (at .entry)) (callIn (now (buf .entry)) (writerIn (now (writer .entry))) (givenPoly (now (longs .entry)))) ⌝ }
+    ensures typed { λ _. ⌜ WellTyped (givenPoly (now (longs .entry))) ⌝ }
 {
     settle(
         cgx_write_calls::poly(buf, writer_of(writer), longs),
@@ -191,6 +200,7 @@ pub extern "C" fn cgx_write_wire_longs(
     longs: &[i32],
 ) -> u32
     ensures { λ r. ⌜ record { number = r; writer = now (writer .exit); at = now (at .exit); buffer = now (buf .exit) } ≡ lent (now (writer .entry)) (now (at .entry)) (callIn (now (buf .entry)) (writerIn (now (writer .entry))) (givenWire EndStyle.Unstated width (now (longs .entry)))) ⌝ }
+    ensures typed { λ _. ⌜ WellTyped (givenWire EndStyle.Unstated width (now (longs .entry))) ⌝ }
 {
     settle(
         cgx_write_calls::wire(buf, writer_of(writer), EndStyle::Unstated, width, longs),
@@ -209,6 +219,7 @@ pub extern "C" fn cgx_write_styled_wire_longs(
     longs: &[i32],
 ) -> u32
     ensures { λ r. ⌜ record { number = r; writer = now (writer .exit); at = now (at .exit); buffer = now (buf .exit) } ≡ lent (now (writer .entry)) (now (at .entry)) (callIn (now (buf .entry)) (writerIn (now (writer .entry))) (givenWire (EndStyle.Stated style) width (now (longs .entry)))) ⌝ }
+    ensures typed { λ _. ⌜ WellTyped (givenWire (EndStyle.Stated style) width (now (longs .entry))) ⌝ }
 {
     settle(
         cgx_write_calls::wire(
@@ -235,6 +246,7 @@ pub extern "C" fn cgx_write_text(
     label: &[u8],
 ) -> u32
     ensures { λ r. ⌜ record { number = r; writer = now (writer .exit); at = now (at .exit); buffer = now (buf .exit) } ≡ lent (now (writer .entry)) (now (at .entry)) (callIn (now (buf .entry)) (writerIn (now (writer .entry))) (givenText flags (record { x = x; y = y }) width (now (label .entry)))) ⌝ }
+    ensures typed { λ _. ⌜ WellTyped (givenText flags (record { x = x; y = y }) width (now (label .entry))) ⌝ }
 {
     settle(
         cgx_write_calls::text(buf, writer_of(writer), flags, Point { x, y }, width, label),
@@ -253,6 +265,7 @@ pub extern "C" fn cgx_write_sref(
     name: &[u8],
 ) -> u32
     ensures { λ r. ⌜ record { number = r; writer = now (writer .exit); at = now (at .exit); buffer = now (buf .exit) } ≡ lent (now (writer .entry)) (now (at .entry)) (callIn (now (buf .entry)) (writerIn (now (writer .entry))) (givenPlaced flags (now (placement .entry)) (now (name .entry)))) ⌝ }
+    ensures typed { λ _. ⌜ WellTyped (givenPlaced flags (now (placement .entry)) (now (name .entry))) ⌝ }
 {
     let p = placement_of(placement);
     let angle = p.angle;
@@ -276,6 +289,7 @@ pub extern "C" fn cgx_write_sref(
 #[no_mangle]
 pub extern "C" fn cgx_write_endlib(buf: &mut [u8], writer: &mut PlaceWords, at: &mut u64) -> u32
     ensures { λ r. ⌜ record { number = r; writer = now (writer .exit); at = now (at .exit); buffer = now (buf .exit) } ≡ lent (now (writer .entry)) (now (at .entry)) (callIn (now (buf .entry)) (writerIn (now (writer .entry))) givenEndlib) ⌝ }
+    ensures typed { λ _. ⌜ WellTyped givenEndlib ⌝ }
 {
     settle(cgx_write_calls::endlib(buf, writer_of(writer)), writer, at)
 }
@@ -290,6 +304,7 @@ pub extern "C" fn cgx_write_test_card(
     sides: &[i32; 4],
 ) -> u32
     ensures { λ r. ⌜ record { number = r; writer = now (writer .exit); at = now (at .exit); buffer = now (buf .exit) } ≡ lent (now (writer .entry)) (now (at .entry)) (allIn (now (buf .entry)) (writerIn (now (writer .entry))) (cardAround (now (sides .entry)))) ⌝ }
+    ensures typed { λ _. ⌜ AllWell (cardAround (now (sides .entry))) ⌝ }
 {
     let left = sides[0];
     let bottom = sides[1];
@@ -311,6 +326,7 @@ pub extern "C" fn cgx_write_caption_frame(
     label: &[u8],
 ) -> u32
     ensures { λ r. ⌜ record { number = r; writer = now (writer .exit); at = now (at .exit); buffer = now (buf .exit) } ≡ lent (now (writer .entry)) (now (at .entry)) (allIn (now (buf .entry)) (writerIn (now (writer .entry))) (frameAround (now (sides .entry)) (now (label .entry)))) ⌝ }
+    ensures typed { λ _. ⌜ AllWell (frameAround (now (sides .entry)) (now (label .entry))) ⌝ }
 {
     let left = sides[0];
     let bottom = sides[1];

@@ -16,9 +16,9 @@ use Rattle.cgx_read_walk.specs.Walk.{answerMeant}
 use Rattle.cgx_c_places.specs.Words.{cursorWords, cursorIn}
 use Rattle.cgx_c_places.proofs.Places.{cursor-back}
 use Rattle.cgx_c_step.specs.Lent.{nextFrom}
-use Rattle.cgx_c_step.specs.Demand.{Memory, Stepped, givenIn, LentDemand}
+use Rattle.cgx_c_step.specs.Demand.{Memory, LentStep, givenIn, LentStepsDemand}
 
-module _ (f : List ℕ) (next : (m : Memory) → Stepped f m) where
+module _ (f : List ℕ) (next : (m : Memory) → LentStep f m) where
   -- what a step from a memory means
   means-at : (m : Memory) (c : Cursor) → cursorIn (m .place) ≡ c → answerMeant f (next m .lent .outcome) ≡ stepOf f (placeIn c)
   means-at m c e = next m .lent .made .means ∙ ap (λ (x : Cursor). stepOf f (placeIn x)) e
@@ -33,7 +33,7 @@ module _ (f : List ℕ) (next : (m : Memory) → Stepped f m) where
   given-is zero m (Refused k o q) c e = refl
   given-is (suc n) m (Refused k o q) c e = refl
 
-reads-all : (bs : List ℕ) → let f = header ++ bs in (next : (m : Memory) → Stepped f m) (m : Memory) → m .place ≡ cursorWords (cursorOf firstPlace)
+reads-all : (bs : List ℕ) → let f = header ++ bs in (next : (m : Memory) → LentStep f m) (m : Memory) → m .place ≡ cursorWords (cursorOf firstPlace)
     → givenIn (length f) f next (next m .left) (next m .lent .outcome) ≡ record { views = viewsOf f; last = ending (verdictOf f) }
 reads-all bs next m e =
     let f = header ++ bs in
@@ -42,5 +42,5 @@ reads-all bs next m e =
     ∙ ap (reads (length f) f) (means-at f next m (cursorOf firstPlace) c ∙ ap (stepOf f) first-in)
     ∙ reading-law .steps bs
 
-pub lent-demand : LentDemand
-lent-demand = record { reads-all = reads-all }
+pub lent-steps-demand : LentStepsDemand
+lent-steps-demand = record { reads-all = reads-all }

@@ -21,13 +21,13 @@ pub record Memory : Type 0 where
   pub at : ℕ
 
 -- What a step over f from there answers and leaves, as it promises.
-pub record Stepped (f : List ℕ) (m : Memory) : Type 0 where
+pub record LentStep (f : List ℕ) (m : Memory) : Type 0 where
   pub answer : ℕ
   pub left : Memory
   pub lent : StepLent f (m .place) (m .view) (m .at) answer (left .place) (left .view) (left .at)
 
 -- A caller to whom a step has left the memory m with this outcome, and that asks at most n times more: the views whose words it is left, and the answer that ends them.
-unfoldable pub givenIn : ℕ → (f : List ℕ) → ((m : Memory) → Stepped f m) → Memory → Outcome → Reads
+unfoldable pub givenIn : ℕ → (f : List ℕ) → ((m : Memory) → LentStep f m) → Memory → Outcome → Reads
 givenIn zero f next m (Record v q) = record { views = []; last = refusedAt 0 Nowhere }
 givenIn (suc n) f next m (Record v q) = andThen (viewMeant f v) (givenIn n f next (next m .left) (next m .lent .outcome))
 givenIn zero f next m Done = record { views = []; last = answerMeant f Done }
@@ -35,8 +35,8 @@ givenIn (suc n) f next m Done = record { views = []; last = answerMeant f Done }
 givenIn zero f next m (Refused k o q) = record { views = []; last = answerMeant f (Refused k o q) }
 givenIn (suc n) f next m (Refused k o q) = record { views = []; last = answerMeant f (Refused k o q) }
 
-pub record LentDemand : Type 0 where
+pub record LentStepsDemand : Type 0 where
   -- Whatever the steps answer and leave, as long as it is what they promise: from the first place on, with a view and a number that hold anything, the caller is given exactly the views of
   -- the file's known records, and then its verdict.
-  pub reads-all : (bs : List ℕ) → let f = header ++ bs in (next : (m : Memory) → Stepped f m) (m : Memory) → m .place ≡ cursorWords (cursorOf firstPlace)
+  pub reads-all : (bs : List ℕ) → let f = header ++ bs in (next : (m : Memory) → LentStep f m) (m : Memory) → m .place ≡ cursorWords (cursorOf firstPlace)
       → givenIn (length f) f next (next m .left) (next m .lent .outcome) ≡ record { views = viewsOf f; last = ending (verdictOf f) }

@@ -32,7 +32,7 @@ use Rattle.cgx_write_given.proofs.Unforged.{after-is}
 use Rattle.cgx_write_makers.specs.Makers.{inTurn, handedBack, allIn}
 use Rattle.cgx_write_makers.proofs.Demand.{makers-demand}
 use Rattle.cgx_c_writer.specs.Lent.{writerIn, wordsAfter, startWords, Held, heldAtStart, outcomeFrom, heldAfter, heldAfterAll, takenFrom, EachWell}
-use Rattle.cgx_c_writer.specs.Demand.{LentDemand}
+use Rattle.cgx_c_writer.specs.Demand.{LentWriterDemand}
 use Rattle.cgx_c_writer.proofs.Lent.{refused, started, not-started, untold}
 
 -- ---- the cursor of a place: a run of none has no first
@@ -204,8 +204,8 @@ read-back m gss e t z =
     let q = ap (λ (v : Writer). calls (startIn (m .buffer) .buffer) v gs) (sym s) ∙ in-turn gss b in
     subst ReadBack q (writer-promises .round .any-calls (m .buffer) gs e (well-taken gss b t) (ap (λ (h : History). contextOf (h .writer) .ended) q ∙ z))
 
-pub lent-demand : LentDemand
-lent-demand =
+pub lent-writer-demand : LentWriterDemand
+lent-writer-demand =
     record {
       start = λ buf w e. start-left w (startIn buf .answer) e;
       call = λ buf w at g. call-left buf w g;

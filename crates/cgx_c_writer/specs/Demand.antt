@@ -12,7 +12,7 @@ use Rattle.cgx_write_given.specs.Demands.{ReadBack}
 use Rattle.cgx_write_makers.specs.Makers.{allIn}
 use Rattle.cgx_c_writer.specs.Lent.{writerIn, lent, lentStart, Held, heldAtStart, heldAfterAll, takenFrom, EachWell}
 
-pub record LentDemand : Type 0 where
+pub record LentWriterDemand : Type 0 where
   -- A start that is taken gives the writer to begin with,
   pub start : (buf w : List ℕ) → startIn buf .answer ≡ 0 → writerIn (lentStart w (startIn buf) .writer) ≡ firstWriter
   -- and each call, taken or refused, and each maker, the writer that it answers.
@@ -21,7 +21,8 @@ pub record LentDemand : Type 0 where
   -- A call is a maker of one record. So calls and makers in a row do what the writer's calls of the records that they take do, which take them all,
   pub single : (buf : List ℕ) (w : Writer) (g : Given) → allIn buf w (g ∷ []) ≡ callIn buf w g
   pub in-turn : (m : Held) (gss : List (List Given)) → let n = heldAfterAll m gss in let gs = takenFrom m gss in calls (m .buffer) (writerIn (m .writer)) gs ≡ record { taken = gs; writer = writerIn (n .writer); buffer = n .buffer }
-  -- and after a start, any of them, refused ones too, and an ENDLIB that is taken last, what was taken is read back from the buffer's beginning.
+  -- and after a start, any of them, refused ones too, and an ENDLIB that is taken last, what was taken is read back from the buffer's beginning. `EachWell` is what the C functions ensure of what
+  -- they are given (`typed`).
   pub read-back : (m : Held) (gss : List (List Given)) → 4 ≤ length (m .buffer) → EachWell gss → let b = heldAtStart m in let n = heldAfterAll b gss in
       contextOf (writerIn (n .writer)) .ended ≡ true → ReadBack (record { taken = takenFrom b gss; writer = writerIn (n .writer); buffer = n .buffer })
   -- What is refused leaves every word of the writer,

@@ -1,16 +1,18 @@
 -- The longs of a body four by four, and the loop over its boxes; one count. Assumes nothing.
 use mathlib.Core.Path.{_≡_, refl, sym, ap, _∙_}
-use mathlib.Core.Bool.{Bool, _&&_}
+use mathlib.Core.Bool.{Bool, true, false, _&&_}
 use mathlib.Core.List.{List, [], _∷_}
 use Prim.Native.Nat.{ℕ, _+_, _-_, _≤_}
 use native.Mathlib.Omega.{arith}
+use borrow.Author.Tests.{eq-eqb, ne-eqb}
+use lib.Dec.{eqb}
 use lib.IntN.{ℤ, pos}
 use lib.Signed.{leZ}
 use lib.ListN.{length, take, drop, length-drop}
 use lib.Seq.{drop-drop, drop-length}
 use Rattle.cgx_spec.specs.Numbers.{longOf, longsOf}
 use Rattle.cgx_spec.specs.Fields.{inOrder, ones}
-use Rattle.cgx_spec.proofs.Lists.{and-true, and-assoc}
+use Rattle.cgx_spec.proofs.Lists.{and-true}
 
 pub longs-cons : (b : List ℕ) → 4 ≤ length b → longsOf b ≡ longOf (take 4 b) ∷ longsOf (drop 4 b)
 unfolding longsOf
@@ -38,19 +40,37 @@ count-is b h = ap ones (longs-cons b (omega arith)) ∙ go (drop 4 b) (length-dr
 abbrev at-long : List ℕ → ℕ → ℤ
 at-long b at = longOf (take 4 (drop at b))
 
--- what is found so far, and what the rest says
-module _ (b : List ℕ) (at : ℕ) (x a : Bool) (q : x ≡ (a && inOrder (longsOf (drop at b)))) where
-  pub boxes-on : at + 16 ≤ length b → (r : Bool) → r ≡ (leZ (at-long b at) (at-long b (at + 8)) && leZ (at-long b (at + 4)) (at-long b (at + 12))) → x ≡ (a && r && inOrder (longsOf (drop (at + 16) b)))
-  unfolding inOrder
-  boxes-on h r e =
-      let t₃ = longs-at b (at + 12) (at + 16) (omega arith) h in
-      let t₂ = longs-at b (at + 8) (at + 12) (omega arith) (omega arith) ∙ ap (λ (l : List ℤ). at-long b (at + 8) ∷ l) t₃ in
-      let t₁ = longs-at b (at + 4) (at + 8) (omega arith) (omega arith) ∙ ap (λ (l : List ℤ). at-long b (at + 4) ∷ l) t₂ in
-      let t₀ = longs-at b at (at + 4) refl (omega arith) ∙ ap (λ (l : List ℤ). at-long b at ∷ l) t₁ in
-      let rest = inOrder (longsOf (drop (at + 16) b)) in
-      q ∙ ap (λ (l : List ℤ). a && inOrder l) t₀ ∙ ap (λ (v : Bool). a && (v && rest)) (sym e) ∙ and-assoc a r rest
+-- The two comparisons of a box, the first of which is `r`.
+module _ (b : List ℕ) (at : ℕ) {r : Bool} (e : r ≡ leZ (at-long b at) (at-long b (at + 8))) where
+  abbrev second : ℕ → Bool
+  second to = leZ (at-long b (at + 4)) (at-long b to)
 
-  pub boxes-done : at ≡ length b → a ≡ x
+  pub left-reversed : r ≡ false → false ≡ (leZ (at-long b at) (at-long b (at + 8)) && second (at + 12))
+  left-reversed f = ap (λ (v : Bool). v && second (at + 12)) (sym f ∙ e)
+
+  pub then-bottom : r ≡ true → {s : Bool} → s ≡ second (at + 4 + 8) → s ≡ (leZ (at-long b at) (at-long b (at + 8)) && second (at + 12))
+  then-bottom t h =
+      let to : at + 4 + 8 ≡ at + 12 = omega arith in
+      h ∙ ap second to ∙ ap (λ (v : Bool). v && second (at + 12)) (sym t ∙ e)
+
+-- One box, which `r` tells of, and the rest; `x` is what the whole says.
+module _ (b : List ℕ) (at : ℕ) {x : Bool} where
+  module _ (h : at + 16 ≤ length b) (q : x ≡ inOrder (longsOf (drop at b))) {r : Bool} (e : r ≡ (leZ (at-long b at) (at-long b (at + 8)) && leZ (at-long b (at + 4)) (at-long b (at + 12)))) where
+    box-first : x ≡ (r && inOrder (longsOf (drop (at + 16) b)))
+    unfolding inOrder
+    box-first =
+        let t₃ = longs-at b (at + 12) (at + 16) (omega arith) h in
+        let t₂ = longs-at b (at + 8) (at + 12) (omega arith) (omega arith) ∙ ap (λ (l : List ℤ). at-long b (at + 8) ∷ l) t₃ in
+        let t₁ = longs-at b (at + 4) (at + 8) (omega arith) (omega arith) ∙ ap (λ (l : List ℤ). at-long b (at + 4) ∷ l) t₂ in
+        let t₀ = longs-at b at (at + 4) refl (omega arith) ∙ ap (λ (l : List ℤ). at-long b at ∷ l) t₁ in
+        q ∙ ap inOrder t₀ ∙ ap (λ (v : Bool). v && inOrder (longsOf (drop (at + 16) b))) (sym e)
+
+    pub box-on : r ≡ true → x ≡ inOrder (longsOf (drop (at + 16) b))
+    box-on t = box-first ∙ ap (λ (v : Bool). v && inOrder (longsOf (drop (at + 16) b))) t
+
+    pub box-reversed : r ≡ false → eqb at (length b) ≡ x
+    box-reversed f = ne-eqb at (length b) (λ e. omega arith) ∙ sym (box-first ∙ ap (λ (v : Bool). v && inOrder (longsOf (drop (at + 16) b))) f)
+
+  pub boxes-done : x ≡ inOrder (longsOf (drop at b)) → at ≡ length b → eqb at (length b) ≡ x
   unfolding inOrder longsOf
-  boxes-done e =
-      sym (q ∙ ap (λ (k : ℕ). a && inOrder (longsOf (drop k b))) e ∙ ap (λ (l : List ℕ). a && inOrder (longsOf l)) (drop-length b) ∙ and-true a)
+  boxes-done q e = eq-eqb at (length b) e ∙ sym (q ∙ ap (λ (k : ℕ). inOrder (longsOf (drop k b))) e ∙ ap (λ (l : List ℕ). inOrder (longsOf l)) (drop-length b))

@@ -1,5 +1,5 @@
 // The rules 9 to 12 of a record's fields, each on the bytes of the field.
-// The loops over bytes and over boxes have no early exit: several can then be taken at a time, and a refused file is read once only.
+// The loops over the bytes of a text have no early exit: several bytes can then be taken at a time.
 ghost use mathlib.Core.Path.{_≡_};
 ghost use mathlib.Core.Bool.{not, _&&_};
 ghost use Prim.Native.Nat.{_+_, _%_, _≤_, _<_};
@@ -54,24 +54,42 @@ pub fn boxes_good(b: &[u8]) -> bool
     requires { ⌜ length (now b) % 16 ≡ 0 ⌝ }
     ensures { λ r. ⌜ r ≡ inOrder (longsOf (now (b .entry))) ⌝ }
 {
-    let mut all = true;
+    first_reversed(b) == b.len()
+}
+
+// The offset of the first reversed box, or the end. What leaves the loop is the offset that it counts: a Boolean would be set anew for each box.
+fn first_reversed(b: &[u8]) -> usize
+    requires { ⌜ length (now b) % 16 ≡ 0 ⌝ }
+    ensures { λ r. ⌜ eqb r (length (now (b .entry))) ≡ inOrder (longsOf (now (b .entry))) ⌝ }
+{
     let mut at = 0;
     while at < b.len() {
-        all = all & box_good(b, at);
+        if !box_good(b, at) {
+            return at;
+        }
         at += Boxes::BOX_SIZE;
     }
-    all
+    at
 }
 
 fn box_good(b: &[u8], at: usize) -> bool
     requires { ⌜ at + 16 ≤ length (now b) ⌝ }
     ensures { λ r. ⌜ r ≡ (leZ (longOf (take 4 (drop at (now (b .entry))))) (longOf (take 4 (drop (at + 8) (now (b .entry))))) && leZ (longOf (take 4 (drop (at + 4) (now (b .entry))))) (longOf (take 4 (drop (at + 12) (now (b .entry)))))) ⌝ }
 {
-    let left = long_at(b, at);
-    let bottom = long_at(b, at + 4);
-    let right = long_at(b, at + 8);
-    let top = long_at(b, at + 12);
-    (left <= right) & (bottom <= top)
+    if !side_good(b, at) {
+        return false;
+    }
+    side_good(b, at + 4)
+}
+
+// A left or a bottom, and eight bytes after it the right or the top.
+fn side_good(b: &[u8], at: usize) -> bool
+    requires { ⌜ at + 12 ≤ length (now b) ⌝ }
+    ensures { λ r. ⌜ r ≡ leZ (longOf (take 4 (drop at (now (b .entry))))) (longOf (take 4 (drop (at + 8) (now (b .entry))))) ⌝ }
+{
+    let low = long_at(b, at);
+    let high = long_at(b, at + 8);
+    low <= high
 }
 
 // ---- 11: strings

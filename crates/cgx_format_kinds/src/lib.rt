@@ -4,10 +4,9 @@ use cgx_spec::Offset;
 use cgx_spec::Real;
 use cgx_spec::Run;
 
-// ---- what fields are made of; structs of plain numbers are laid out as in C, whose callers are given them as they are
+// ---- what fields are made of
 
 // The text of a string, a part of the file.
-#[repr(C)]
 pub struct TextSpan {
     pub at: usize,
     pub len: usize,
@@ -18,7 +17,6 @@ pub enum Name {
     Present(TextSpan),
 }
 
-#[repr(C)]
 pub struct Date {
     pub year: i16,
     pub month: u8,
@@ -29,20 +27,16 @@ pub struct Date {
 }
 
 // Readers have confused the two: each is a number of its own kind.
-#[repr(C)]
 pub struct LayerNo(pub i16);
 
-#[repr(C)]
 pub struct DataType(pub i16);
 
-#[repr(C)]
 pub struct Point {
     pub x: i32,
     pub y: i32,
 }
 
 // Boxes or points, one after another in the file: the offset of the first, and how many.
-#[repr(C)]
 pub struct ItemList {
     pub first: usize,
     pub count: usize,

@@ -1,5 +1,5 @@
 // The typed fields of a record, read from the file: one small function a kind, each with the offsets of 01's table.
-// Spans and repeats hold offsets in the file.
+// Texts and lists are told by their offsets in the file.
 use cgx_format_kinds::Array;
 use cgx_format_kinds::Boxes;
 use cgx_format_kinds::Cprpty;
@@ -63,7 +63,7 @@ pub fn fields_of(f: &[u8], k: Kind, fl: u8, at: usize, size: usize) -> Fields
 
 // ---- a kind each
 
-pub fn library_of(f: &[u8], at: usize, size: usize) -> Library
+fn library_of(f: &[u8], at: usize, size: usize) -> Library
     requires { ⌜ StringAt (now f) (at + 36) (size - 36) ⌝ }
     ensures { λ r. ⌜ ReadAlike Kind.Library (now (f .entry)) at size (Fields.Library r) ⌝ }
 {
@@ -152,7 +152,7 @@ pub fn wire_of(f: &[u8], at: usize, size: usize) -> Wire
     Wire { width, points }
 }
 
-pub fn text_of(f: &[u8], at: usize, size: usize) -> Text
+fn text_of(f: &[u8], at: usize, size: usize) -> Text
     requires { ⌜ StringAt (now f) (at + 16) (size - 16) ⌝ }
     ensures { λ r. ⌜ ReadAlike Kind.Text (now (f .entry)) at size (Fields.Text r) ⌝ }
 {
@@ -167,7 +167,7 @@ pub fn text_of(f: &[u8], at: usize, size: usize) -> Text
 }
 
 // Each field that its flags say is there is read right after those before it.
-pub fn sref_of(f: &[u8], fl: u8, at: usize, size: usize) -> Sref
+fn sref_of(f: &[u8], fl: u8, at: usize, size: usize) -> Sref
     requires { ⌜ StringAt (now f) (at + srefLayout fl .name) (size - srefLayout fl .name) ⌝ }
     ensures { λ r. ⌜ ReadAt Kind.Sref fl (now (f .entry)) at size (Fields.Sref r) ⌝ }
 {

@@ -38,13 +38,13 @@ fn read_from(file: &[u8], first: Cursor) {
 }
 
 // Where a reader is after a step, and whether it was given a record.
-struct Stepped {
+struct Shown {
     more: bool,
     place: Cursor,
 }
 
 // One step of a reader at this place.
-fn show_step(file: &[u8], place: Cursor) -> Stepped {
+fn show_step(file: &[u8], place: Cursor) -> Shown {
     print(b"peek");
     show_outcome(file, read_next(file, place));
     let moved = read_on(file, place);
@@ -53,7 +53,7 @@ fn show_step(file: &[u8], place: Cursor) -> Stepped {
     print(b"next");
     let more = show_outcome(file, outcome);
     show_place(after.at);
-    Stepped { more, place: after }
+    Shown { more, place: after }
 }
 
 // Whether it is a record.

@@ -66,7 +66,6 @@ impl Owner {
 }
 
 // The array of an SREF: it counts where flag 8 is set.
-#[repr(C)]
 pub struct Grid {
     pub cols: i32,
     pub rows: i32,

@@ -63,6 +63,25 @@ if [ -z "$sanitized" ]; then # a sanitizer has much memory of its own
     done
     try "100 MB that do not fit the memory" 2 "" "cgx: not enough memory" within 16384 "$cgx" normal "$large"
 fi
+# Pages are mapped ahead by another processor, which matters most where they lie singly; a pipe is read and not mapped.
+dd if="$large" of="$t/single.cgx" bs=4k status=none
+for word in check list normal labels; do
+    cat "$large" | "$cgx" $word - | cksum >"$t/read"
+    for file in large single; do
+        "$cgx" $word - <"$t/$file.cgx" | cksum >"$t/mapped"
+        one "$word: 100 MB read and mapped, $file" cmp "$t/read" "$t/mapped"
+    done
+done
+first_processor=$(taskset -cp $$ | sed 's/.*: *\([0-9]*\).*/\1/')
+try "100 MB on one processor" 0 "$t/single.cgx: ok" "" taskset -c "$first_processor" "$cgx" check "$t/single.cgx"
+if [ -z "$sanitized" ] && as_nobody true 2>/dev/null; then # a sanitizer has a process of its own
+    try "100 MB where no thread can be had" 0 "$t/single.cgx: ok" "" \
+        as_nobody prlimit --nproc=1 "$cgx" check "$t/single.cgx"
+fi
+printf x | dd of="$t/single.cgx" bs=1 seek=3 conv=notrunc status=none
+try "100 MB refused at once" 1 "$t/single.cgx: refused 2 at 0: not CGX level 0" "" "$cgx" check "$t/single.cgx"
+rm "$t/single.cgx"
+
 head -c 99999999 "$large" >"$t/cut.cgx"
 "$cgx" check "$t/cut.cgx" >"$t/out"
 one "100 MB cut off" grep -q ': refused 4 at 9999....: a record is cut off$' "$t/out"

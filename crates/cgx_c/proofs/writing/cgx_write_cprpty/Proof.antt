@@ -1,9 +1,9 @@
 -- The answer of the call, left in lent memory.
-use mathlib.Core.Path.{_≡_, _∙_}
+use mathlib.Core.Path.{_≡_}
 use mir.Syntax.{w32}
 use Rattle.numbers.proofs.Signed.{back}
 use Rattle.cgx_write_given.specs.Given.{givenCprpty}
-use Rattle.cgx_write_given.specs.declared.Writer.{Writer}
+use Rattle.cgx_write_given.specs.Typed.{WellTyped}
 use Rattle.cgx_write_given.specs.Writing.{callIn}
 use Rattle.cgx_c.proofs.Calls.{called}
 use borrow.Author.Needs.{needs}
@@ -26,9 +26,8 @@ returns : tie.Need-returns
 returns c =
     let t = c .before .before .before .before .before .before .before .before .before .before .before in
     let s = t .args in
-    let v = c .before .before .before .before .before .before .writer-of .result in
-    let q : callIn (s .buf .now) v _ ≡ _ = λ i. callIn (s .buf .now) v (givenCprpty (back w32 {z = s .number} (t .fits .number .sfits) i) (s .value .now)) in
-    called (λ (w : Writer). callIn (s .buf .now) w (givenCprpty (s .number) (s .value .now))) (s .writer .now) (s .at .now) _ (c .settle .ensures) (c .before .before .before .before .before .before .writer-of .ensures) (c .before .before .before .before .before .cprpty .ensures .0 ∙ q)
+    let q : _ ≡ givenCprpty (s .number) (s .value .now) = λ i. givenCprpty (back w32 {z = s .number} (t .fits .number .sfits) i) (s .value .now) in
+    called (callIn (s .buf .now)) WellTyped (s .writer .now) (s .at .now) _ (c .settle .ensures) (c .before .before .before .before .before .before .writer-of .ensures) (c .before .before .before .before .before .cprpty .ensures) q
 
 pub cgx-write-cprpty-spec : {M : Type 1} → statement M
 cgx-write-cprpty-spec =

@@ -1,9 +1,9 @@
 -- The answer of the call, left in lent memory.
-use mathlib.Core.Path.{_≡_, _∙_}
+use mathlib.Core.Path.{_≡_}
 use mathlib.Core.Option.{none}
 use Rattle.cgx_write_given.specs.Given.{givenLayer}
 use Rattle.cgx_c_writer.specs.Parts.{layerNoIn, dataTypeIn}
-use Rattle.cgx_write_given.specs.declared.Writer.{Writer}
+use Rattle.cgx_write_given.specs.Typed.{WellTyped}
 use Rattle.cgx_write_given.specs.Writing.{callIn}
 use Rattle.cgx_c.proofs.Calls.{called}
 use borrow.Author.Needs.{needs}
@@ -31,9 +31,8 @@ same-length c = search needs
 returns : tie.Need-returns
 returns c =
     let s = c .before .before .before .before .before .before .before .before .before .before .before .before .args in
-    let v = c .before .before .before .before .before .before .before .before .writer-of .result in
-    let q : callIn (s .buf .now) v _ ≡ _ = λ i. callIn (s .buf .now) v (givenLayer (c .before .before .before .before .before .before .before .layer-no .ensures i) (c .before .before .before .before .before .before .data-type .ensures i) none) in
-    called (λ (w : Writer). callIn (s .buf .now) w (givenLayer (layerNoIn (s .id .now)) (dataTypeIn (s .id .now)) none)) (s .writer .now) (s .at .now) _ (c .settle .ensures) (c .before .before .before .before .before .before .before .before .writer-of .ensures) (c .before .before .before .before .before .layer .ensures .0 ∙ q)
+    let q : _ ≡ givenLayer (layerNoIn (s .id .now)) (dataTypeIn (s .id .now)) none = λ i. givenLayer (c .before .before .before .before .before .before .before .layer-no .ensures i) (c .before .before .before .before .before .before .data-type .ensures i) none in
+    called (callIn (s .buf .now)) WellTyped (s .writer .now) (s .at .now) _ (c .settle .ensures) (c .before .before .before .before .before .before .before .before .writer-of .ensures) (c .before .before .before .before .before .layer .ensures) q
 
 pub cgx-write-layer-spec : {M : Type 1} → statement M
 cgx-write-layer-spec =

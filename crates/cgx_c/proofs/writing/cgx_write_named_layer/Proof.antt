@@ -1,9 +1,9 @@
 -- The answer of the call, left in lent memory.
-use mathlib.Core.Path.{_≡_, _∙_}
+use mathlib.Core.Path.{_≡_}
 use mathlib.Core.Option.{some}
 use Rattle.cgx_write_given.specs.Given.{givenLayer}
 use Rattle.cgx_c_writer.specs.Parts.{layerNoIn, dataTypeIn}
-use Rattle.cgx_write_given.specs.declared.Writer.{Writer}
+use Rattle.cgx_write_given.specs.Typed.{WellTyped}
 use Rattle.cgx_write_given.specs.Writing.{callIn}
 use Rattle.cgx_c.proofs.Calls.{called}
 use borrow.Author.Needs.{needs}
@@ -31,9 +31,8 @@ same-length c = search needs
 returns : tie.Need-returns
 returns c =
     let s = c .before .before .before .before .before .before .before .before .before .before .before .before .before .args in
-    let v = c .before .before .before .before .before .before .before .before .writer-of .result in
-    let q : callIn (s .buf .now) v _ ≡ _ = λ i. callIn (s .buf .now) v (givenLayer (c .before .before .before .before .before .before .before .layer-no .ensures i) (c .before .before .before .before .before .before .data-type .ensures i) (some (s .name .now))) in
-    called (λ (w : Writer). callIn (s .buf .now) w (givenLayer (layerNoIn (s .id .now)) (dataTypeIn (s .id .now)) (some (s .name .now)))) (s .writer .now) (s .at .now) _ (c .settle .ensures) (c .before .before .before .before .before .before .before .before .writer-of .ensures) (c .before .before .before .before .before .named-layer .ensures .0 ∙ q)
+    let q : _ ≡ givenLayer (layerNoIn (s .id .now)) (dataTypeIn (s .id .now)) (some (s .name .now)) = λ i. givenLayer (c .before .before .before .before .before .before .before .layer-no .ensures i) (c .before .before .before .before .before .before .data-type .ensures i) (some (s .name .now)) in
+    called (callIn (s .buf .now)) WellTyped (s .writer .now) (s .at .now) _ (c .settle .ensures) (c .before .before .before .before .before .before .before .before .writer-of .ensures) (c .before .before .before .before .before .named-layer .ensures) q
 
 pub cgx-write-named-layer-spec : {M : Type 1} → statement M
 cgx-write-named-layer-spec =

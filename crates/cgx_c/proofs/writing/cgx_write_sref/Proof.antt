@@ -1,8 +1,8 @@
 -- The answer of the call, left in lent memory.
-use mathlib.Core.Path.{_≡_, _∙_}
+use mathlib.Core.Path.{_≡_}
 use Rattle.cgx_write_given.specs.Given.{givenSref}
 use Rattle.cgx_c_writer.specs.Parts.{givenPlaced}
-use Rattle.cgx_write_given.specs.declared.Writer.{Writer}
+use Rattle.cgx_write_given.specs.Typed.{WellTyped}
 use Rattle.cgx_write_given.specs.Writing.{callIn}
 use Rattle.cgx_c.proofs.Calls.{called}
 use borrow.Author.Needs.{needs}
@@ -27,9 +27,8 @@ same-length c = search needs
 returns : tie.Need-returns
 returns c =
     let s = c .before .before .before .before .before .before .before .before .before .before .before .before .before .before .args in
-    let v = c .before .before .before .before .before .before .writer-of .result in
-    let q : callIn (s .buf .now) v _ ≡ _ = λ i. callIn (s .buf .now) v (let p = c .before .before .before .before .before .before .before .before .before .before .before .placement-of .ensures i in givenSref (s .flags) (p .at) (p .angle) (p .magnif) (p .grid) (s .name .now)) in
-    called (λ (w : Writer). callIn (s .buf .now) w (givenPlaced (s .flags) (s .placement .now) (s .name .now))) (s .writer .now) (s .at .now) _ (c .settle .ensures) (c .before .before .before .before .before .before .writer-of .ensures) (c .before .before .before .before .before .sref .ensures .0 ∙ q)
+    let q : _ ≡ givenPlaced (s .flags) (s .placement .now) (s .name .now) = λ i. let p = c .before .before .before .before .before .before .before .before .before .before .before .placement-of .ensures i in givenSref (s .flags) (p .at) (p .angle) (p .magnif) (p .grid) (s .name .now) in
+    called (callIn (s .buf .now)) WellTyped (s .writer .now) (s .at .now) _ (c .settle .ensures) (c .before .before .before .before .before .before .writer-of .ensures) (c .before .before .before .before .before .sref .ensures) q
 
 pub cgx-write-sref-spec : {M : Type 1} → statement M
 cgx-write-sref-spec =

@@ -1,9 +1,9 @@
 -- The answer of the call, left in lent memory.
-use mathlib.Core.Path.{_≡_, _∙_}
+use mathlib.Core.Path.{_≡_}
 use mir.Syntax.{w32}
 use Rattle.numbers.proofs.Signed.{back}
 use Rattle.cgx_write_given.specs.Given.{givenText}
-use Rattle.cgx_write_given.specs.declared.Writer.{Writer}
+use Rattle.cgx_write_given.specs.Typed.{WellTyped}
 use Rattle.cgx_write_given.specs.Writing.{callIn}
 use Rattle.cgx_c.proofs.Calls.{called}
 use borrow.Author.Needs.{needs}
@@ -26,9 +26,8 @@ returns : tie.Need-returns
 returns c =
     let t = c .before .before .before .before .before .before .before .before .before .before .before in
     let s = t .args in
-    let v = c .before .before .before .before .before .before .writer-of .result in
-    let q : callIn (s .buf .now) v _ ≡ _ = λ i. callIn (s .buf .now) v (givenText (s .flags) (record { x = back w32 {z = s .x} (t .fits .x .sfits) i; y = back w32 {z = s .y} (t .fits .y .sfits) i }) (back w32 {z = s .width} (t .fits .width .sfits) i) (s .label .now)) in
-    called (λ (w : Writer). callIn (s .buf .now) w (givenText (s .flags) (record { x = s .x; y = s .y }) (s .width) (s .label .now))) (s .writer .now) (s .at .now) _ (c .settle .ensures) (c .before .before .before .before .before .before .writer-of .ensures) (c .before .before .before .before .before .text .ensures .0 ∙ q)
+    let q : _ ≡ givenText (s .flags) (record { x = s .x; y = s .y }) (s .width) (s .label .now) = λ i. givenText (s .flags) (record { x = back w32 {z = s .x} (t .fits .x .sfits) i; y = back w32 {z = s .y} (t .fits .y .sfits) i }) (back w32 {z = s .width} (t .fits .width .sfits) i) (s .label .now) in
+    called (callIn (s .buf .now)) WellTyped (s .writer .now) (s .at .now) _ (c .settle .ensures) (c .before .before .before .before .before .before .writer-of .ensures) (c .before .before .before .before .before .text .ensures) q
 
 pub cgx-write-text-spec : {M : Type 1} → statement M
 cgx-write-text-spec =
