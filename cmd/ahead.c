@@ -22,6 +22,7 @@ enum { STACK = 1 << 16, PARTS = 8 };
 static const uint64_t LEAST = 1 << 23; /* below this there is nothing to gain */
 static const uint64_t PIECE = 1 << 19; /* what is mapped at once; a multiple of every page's size */
 static const uint64_t GAP = 1 << 17;   /* twice what the kernel maps where one page is read */
+static const long SHORTEST = 250000, LONGEST = 500000000; /* nanoseconds from one look at the reader to the next */
 
 struct ahead {
     uint8_t *bytes;
@@ -47,11 +48,11 @@ static bool is_reached(const struct ahead *a, uint64_t at) {
     return pread(a->pagemap, &entry, sizeof entry, (off_t)(page * sizeof entry)) == sizeof entry && entry >> 63 != 0;
 }
 
-/* Whether nobody reads any more; waits for it a little. */
-static bool is_over(struct ahead *a) {
+/* Whether nobody reads any more; waits so long for it, which is less than a second. */
+static bool is_over(struct ahead *a, long nanoseconds) {
     struct timespec until;
     clock_gettime(CLOCK_REALTIME, &until);
-    until.tv_nsec += 250000;
+    until.tv_nsec += nanoseconds;
     if (until.tv_nsec >= 1000000000) {
         until.tv_nsec -= 1000000000;
         until.tv_sec++;
@@ -62,15 +63,20 @@ static bool is_over(struct ahead *a) {
 static void *run(void *given) {
     struct ahead *a = given;
     uint64_t at = PIECE, next = a->part;
+    long wait = SHORTEST;
     bool over = false;
     while (!over && at < a->size && map_piece(a, at)) {
         at += PIECE;
         over = sem_trywait(&a->over) == 0;
     }
-    while (!over && !(over = is_over(a)) && next < at) {
-        if (!is_reached(a, next)) continue;
-        madvise(a->bytes + next - a->part, (size_t)a->part, MADV_DONTNEED);
-        next += a->part;
+    while (!over && !(over = is_over(a, wait)) && next < at) {
+        if (is_reached(a, next)) {
+            madvise(a->bytes + next - a->part, (size_t)a->part, MADV_DONTNEED);
+            next += a->part;
+            wait = SHORTEST;
+        } else if (wait < LONGEST) { /* a reader who waits for a person is asked less and less often */
+            wait += wait / 4;
+        }
     }
     return NULL;
 }
