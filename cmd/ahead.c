@@ -109,8 +109,10 @@ struct ahead *begin_ahead(uint8_t *bytes, uint64_t size) {
     a->size = size;
     a->part = (size / PARTS / PIECE + 1) * PIECE;
     a->pagemap = open("/proc/self/pagemap", O_RDONLY | O_CLOEXEC);
-    /* The first piece is mapped here, so that the thread is ahead from the start. */
-    if (sem_init(&a->over, 0, 0) == 0 && map_piece(a, 0) && is_started(a)) return a;
+    if (sem_init(&a->over, 0, 0) == 0) {
+        if (map_piece(a, 0) && is_started(a)) return a; /* the first piece here: so the thread is ahead from the start */
+        sem_destroy(&a->over);
+    }
     if (a->pagemap >= 0) close(a->pagemap);
     free(a);
     return NULL;

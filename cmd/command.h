@@ -34,7 +34,7 @@ void close_input(input *file);
 /* NULL where nothing is to be gained by it, or it cannot be done. */
 struct ahead *begin_ahead(uint8_t *bytes, uint64_t size);
 
-/* Nobody may read the bytes after it has begun. */
+/* Before the bytes are unmapped. */
 void end_ahead(struct ahead *a);
 
 /* ---- words (main.c): each is a file that defines word_NAME, and a line of words.h */
