@@ -56,7 +56,7 @@ static bool positive(const uint8_t *p)
 
 static bool good_date(const uint8_t *p)
 {
-    return p[2] >= 1 && p[2] <= 12 && p[3] >= 1 && p[3] <= 31 && p[4] <= 23 && p[5] <= 59 && p[6] <= 59 && p[7] == 0;
+    return p[2] >= 1 && p[2] <= 12 && p[3] >= 1 && p[3] <= 31 && p[4] <= 23 && p[5] <= 59 && p[6] <= 60 && p[7] == 0;
 }
 
 /* A field of even length from 2 on. */

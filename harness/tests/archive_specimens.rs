@@ -173,10 +173,10 @@ fn reals() {
 #[test]
 fn seconds() {
     let mut record = plain(STRUCT);
-    record.body[6] = 59;
+    record.body[6] = 60;
     let mut drawing = around(vec![record]);
     assert_eq!(check(&drawing.bytes()), Verdict::Accepted);
-    drawing.records[1].body[6] = 60;
+    drawing.records[1].body[6] = 61;
     assert_eq!(check(&drawing.bytes()), refused(9, 42));
 }
 

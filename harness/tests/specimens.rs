@@ -171,10 +171,10 @@ fn exact_answers_equal_the_exact_value() {
 #[test]
 fn seconds() {
     let mut record = plain(STRUCT);
-    record.body[6] = 59;
+    record.body[6] = 60;
     let mut drawing = around(vec![record]);
     assert_eq!(check(&drawing.bytes()), Verdict::Accepted);
-    drawing.records[1].body[6] = 60;
+    drawing.records[1].body[6] = 61;
     assert_eq!(check(&drawing.bytes()), refused(9, drawing.offset_of(1)));
 }
 

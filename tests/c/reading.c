@@ -70,7 +70,7 @@ static const refused_file refused_files[] = {
     {"day 32", STRUCT_DATED("07e9 02 20 0e 09 2d 00"), 9, 42},
     {"hour 24", STRUCT_DATED("07e9 02 06 18 09 2d 00"), 9, 42},
     {"minute 60", STRUCT_DATED("07e9 02 06 0e 3c 2d 00"), 9, 42},
-    {"second 60", STRUCT_DATED("07e9 02 06 0e 09 3c 00"), 9, 42},
+    {"second 61", STRUCT_DATED("07e9 02 06 0e 09 3d 00"), 9, 42},
     {"a date's last byte", STRUCT_DATED("07e9 02 06 0e 09 2d 01"), 9, 42},
     {"munit 0", CGX "0026 00 00 8000000000000000 3944b82fa09b5a54 " DATES "6d00" ENDLIB, 10, 4},
     {"uunit below 0", CGX "0026 00 00 3e4189374bc6a7f0 b944b82fa09b5a54 " DATES "6d00" ENDLIB, 10, 4},
@@ -130,7 +130,7 @@ static const accepted_file accepted_files[] = {
     {"name a", STRUCT_NAMED("0016", "6100"), 3},
     {"name ab", STRUCT_NAMED("0018", "61620000"), 3},
     {"empty name", STRUCT_NAMED("0016", "0000"), 3},
-    {"second 59", STRUCT_DATED("07e9 02 06 0e 09 3b 00"), 3},
+    {"second 60", STRUCT_DATED("07e9 02 06 0e 09 3c 00"), 3},
     {"unknown inside a run", LAYERED "000a 03 00 00000001 6100 0004 ff 00" BOX_1 ENDLIB, 6},
     {"SREF needs no layer", CELL "000e 09 00 00000001 00000001 6100" ENDLIB, 4},
     {"every kind", every_kind, 16},
@@ -162,6 +162,50 @@ static void most_boxes(void) {
     drop(file);
     drop(end);
     drop(start);
+}
+
+/* ---- every second of each date: 0 to 60 are taken, given, and in normal form as they are; 61 to 255 are 9 */
+
+static bool gives_second(blob file, uint64_t at, bool modified, uint8_t second) {
+    cgx_place place = unused_cgx_place();
+    cgx_view view = unused_cgx_view();
+    const cgx_fields *f = &view.fields;
+    ask_start(file, &place);
+    while (ask_step(file, &place, &view).number == CGX_OK && view.at < at) continue;
+    if (view.at != at) return false;
+    if (view.kind == CGX_LIBRARY) return (modified ? f->library.modified : f->library.created).second == second;
+    return (modified ? f->structure.modified : f->structure.created).second == second;
+}
+
+static bool is_normal(blob file) {
+    blob form = {lend(file.size), file.size};
+    uint64_t length = unused_uint64_t();
+    bool good = ask_normal_form(file, form, &length).number == CGX_OK && length == file.size && same_bytes(form, file);
+    drop(form);
+    return good;
+}
+
+static void seconds(const char *name, uint64_t record, bool modified) {
+    blob file = hex(SMALL), out = copy_of("untouched", 9);
+    uint8_t *second = file.bytes + record + (record == 4 ? 26 : 10) + (modified ? 8 : 0);
+    uint64_t length = unused_uint64_t();
+    bool taken = true, refused = true;
+    size_t records;
+    unsigned s;
+    for (s = 0; s <= 60; s++) {
+        *second = (uint8_t)s;
+        taken = taken && ask_check(file).number == CGX_OK && walked(file, &records).number == CGX_DONE && records == 5
+            && gives_second(file, record, modified, (uint8_t)s) && is_normal(file);
+    }
+    for (; s <= 255; s++) {
+        *second = (uint8_t)s;
+        refused = refused && refuses(ask_check(file), 9, record) && refuses(walked(file, &records), 9, record)
+            && refuses(ask_normal_form(file, out, &length), 9, record);
+    }
+    expect(taken, name, "seconds 0 to 60");
+    expect(refused, name, "seconds 61 to 255");
+    drop(out);
+    drop(file);
 }
 
 /* ---- views: every member, and the bytes after the kind's own fields, which stay */
@@ -596,6 +640,10 @@ void test_reading(void) {
     for (i = 0; i < sizeof refused_files / sizeof refused_files[0]; i++) refuse(&refused_files[i]);
     for (i = 0; i < sizeof accepted_files / sizeof accepted_files[0]; i++) accept(&accepted_files[i]);
     most_boxes();
+    seconds("LIBRARY, created", 4, false);
+    seconds("LIBRARY, modified", 4, true);
+    seconds("STRUCT, created", 42, false);
+    seconds("STRUCT, modified", 42, true);
     views();
     read_again();
     forged();

@@ -41,8 +41,8 @@ static const taken_call taken_calls[] = {
         "0018 01 00 " NEXT_DAY_DIGITS DAY_DIGITS "61620000"},
     {"STRUCT after LAYER", IN_LAYER, {GOOD_STRUCT, .created = NEXT_DAY, TEXT_OF("a")},
         "0016 01 00 " NEXT_DAY_DIGITS DAY_DIGITS "6100"},
-    {"STRUCT, lowest year, second 59", IN_LIBRARY, {GOOD_STRUCT, .created = {INT16_MIN, 12, 31, 23, 59, 59, 0}},
-        "0016 01 00 8000 0c 1f 17 3b 3b 00 " DAY_DIGITS "0000"},
+    {"STRUCT, lowest year, second 60", IN_LIBRARY, {GOOD_STRUCT, .created = {INT16_MIN, 12, 31, 23, 59, 60, 0}},
+        "0016 01 00 8000 0c 1f 17 3b 3c 00 " DAY_DIGITS "0000"},
     {"CPRPTY", IN_CELL, {.which = A_CPRPTY, .number = -1, TEXT_OF("cp")}, "000c 02 00 ffffffff 63700000"},
     {"PROPERTY", IN_CELL, {.which = A_PROPERTY, .number = INT32_MIN, TEXT_OF("")}, "000a 03 00 80000000 0000"},
     {"PROPERTY after PROPERTY", IN_RUN, {.which = A_PROPERTY, .number = 127, TEXT_OF("p")}, "000a 03 00 0000007f 7000"},
@@ -118,8 +118,8 @@ typedef struct {
 static const refused_call refused_calls[] = {
     {"second LIBRARY", IN_LIBRARY, {GOOD_LIBRARY, GOOD_SCALES}, 6},
     {"LIBRARY after ENDLIB", ENDED, {GOOD_LIBRARY, GOOD_SCALES}, 6},
-    {"LIBRARY, second 60", AT_START,
-        {.which = A_LIBRARY, GOOD_SCALES, .created = DAY, .modified = {2025, 2, 6, 14, 9, 60, 0}}, 9},
+    {"LIBRARY, second 61", AT_START,
+        {.which = A_LIBRARY, GOOD_SCALES, .created = DAY, .modified = {2025, 2, 6, 14, 9, 61, 0}}, 9},
     {"LIBRARY, date before scale", AT_START, {.which = A_LIBRARY, .created = DAY}, 9},
     {"LIBRARY, munit 0", AT_START, {GOOD_LIBRARY, .first = {0x8000000000000000}, .second = ONE}, 10},
     {"LIBRARY, uunit below 0", AT_START, {GOOD_LIBRARY, .first = ONE, .second = {0xc110000000000000}}, 10},
@@ -135,7 +135,7 @@ static const refused_call refused_calls[] = {
     {"day 32", IN_LIBRARY, A_STRUCT_ON({2025, 2, 32, 14, 9, 45, 0}), 9},
     {"hour 24", IN_LIBRARY, A_STRUCT_ON({2025, 2, 6, 24, 9, 45, 0}), 9},
     {"minute 60", IN_LIBRARY, A_STRUCT_ON({2025, 2, 6, 14, 60, 45, 0}), 9},
-    {"second 60", IN_LIBRARY, A_STRUCT_ON({2025, 2, 6, 14, 9, 60, 0}), 9},
+    {"second 61", IN_LIBRARY, A_STRUCT_ON({2025, 2, 6, 14, 9, 61, 0}), 9},
     {"STRUCT, a zero in its name", IN_LIBRARY, {GOOD_STRUCT, .created = DAY, TEXT_OF("\0")}, 11},
 
     {"CPRPTY without a cell", IN_LIBRARY, {.which = A_CPRPTY}, 6},
@@ -369,6 +369,41 @@ static void broken_lists(void) {
     }
 }
 
+/* ---- every second of each date: 0 to 60 are taken and read back, 61 to 255 are 9 */
+
+/* LIBRARY, STRUCT and ENDLIB, where LIBRARY or STRUCT has a second of its own: the answer to that call, and whether the
+   rest was taken and the file is accepted with that second in its place. */
+static told stamped(bool in_struct, bool modified, uint8_t second, bool *whole) {
+    call library = {GOOD_LIBRARY, GOOD_SCALES, TEXT_OF("m")}, cell = A_STRUCT_ON(DAY), endlib = {.which = AN_ENDLIB};
+    call *c = in_struct ? &cell : &library;
+    const size_t at = in_struct ? 42 + 10 : 4 + 26;
+    blob buf = {lend(68), 68};
+    cgx_writer writer;
+    told t;
+    (modified ? &c->modified : &c->created)->second = second;
+    cgx_write_start(buf.bytes, buf.size, &writer);
+    if (in_struct) make_call(buf, &writer, &library);
+    t = make_call(buf, &writer, c);
+    if (!in_struct) make_call(buf, &writer, &cell);
+    *whole = make_call(buf, &writer, &endlib).number == CGX_OK && writer.place.at == buf.size
+        && ask_check(buf).number == CGX_OK && buf.bytes[at + (modified ? 8 : 0)] == second;
+    drop(buf);
+    return t;
+}
+
+static void seconds(const char *name, bool in_struct, bool modified) {
+    const uint64_t at = in_struct ? 42 : 4;
+    bool taken = true, refused = true, whole;
+    unsigned s;
+    for (s = 0; s <= 60; s++) taken = taken && stamped(in_struct, modified, (uint8_t)s, &whole).number == CGX_OK && whole;
+    for (; s <= 255; s++) {
+        told t = stamped(in_struct, modified, (uint8_t)s, &whole);
+        refused = refused && t.number == CGX_REFUSED_DATE && t.at == at && !whole;
+    }
+    expect(taken, name, "seconds 0 to 60");
+    expect(refused, name, "seconds 61 to 255");
+}
+
 /* ---- the start */
 
 static void starts(void) {
@@ -538,6 +573,10 @@ void test_writing(void) {
     longest_texts();
     longest_lists();
     broken_lists();
+    seconds("LIBRARY, created", false, false);
+    seconds("LIBRARY, modified", false, true);
+    seconds("STRUCT, created", true, false);
+    seconds("STRUCT, modified", true, true);
     read_back();
     handed_on();
 }

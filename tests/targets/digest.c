@@ -386,7 +386,7 @@ static void digest_step(cgx_place *place) {
 
 static void digest_calls(void) {
     static const uint8_t text[5] = {'a', 'b', 0xc3, 0, 'c'};
-    static const cgx_date date = {2026, 2, 31, 23, 59, 59, 7}, no_date = {2026, 0, 1, 0, 0, 0, 0};
+    static const cgx_date date = {2026, 2, 31, 23, 59, 60, 7}, no_date = {2026, 0, 1, 0, 0, 0, 0};
     static const cgx_layer_id id = {-1, 32767};
     static const cgx_box sides = {30, -20, -10, 40};
     static const cgx_box boxes[2] = {{-5, -6, 7, 8}, {9, 9, 9, 9}};

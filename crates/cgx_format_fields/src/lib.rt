@@ -26,7 +26,7 @@ pub fn date_good(b: &[u8]) -> bool
     let day = between(1, 31, b[3]);
     let hour = between(0, 23, b[4]);
     let minute = between(0, 59, b[5]);
-    let second = between(0, 59, b[6]);
+    let second = between(0, 60, b[6]);
     let zero = b[7] == 0;
     month & day & hour & minute & second & zero
 }

@@ -99,7 +99,7 @@ units-rest u lo hi w t = eqb→eq (w % u) 0 (and-left (eqb (w % u) 0) (leb lo (w
 eight-fit : (n : ℕ) (l : List ℕ) → n ≤ length l → T (eqb (length (take n l)) n)
 eight-fit n l h = subst (λ (x : ℕ). T (eqb x n)) (sym (length-take-le n l h)) (eqb-refl n)
 
-eight-room : (n : ℕ) (l : List ℕ) → T (eqb (length (take n l)) n) → n ≤ length l
+pub eight-room : (n : ℕ) (l : List ℕ) → T (eqb (length (take n l)) n) → n ≤ length l
 eight-room n l t = let e = eqb→eq (length (take n l)) n t in let h = take-le n l in omega arith
 
 module _ (k lo hi : ℕ) (s : 0 < k) (l : List ℕ) where

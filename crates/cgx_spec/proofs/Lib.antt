@@ -20,6 +20,7 @@ pub mod Located
 pub mod Outcomes
 pub mod Truth
 pub mod Only
+pub mod Seconds
 pub mod Specimens
 pub mod RealAnswers
 pub mod Promises

@@ -15,7 +15,7 @@ use Rattle.cgx_spec.specs.declared.Kind.{Kind}
 use Rattle.cgx_spec.specs.declared.Kind.the-variants.{Library, Struct, Cprpty, Property, Layer, Box, Poly, Wire, Text, Sref, Endlib}
 use Rattle.cgx_spec.specs.Numbers.{longOf, longsOf}
 use Rattle.cgx_spec.specs.Reals.{positive as above0, realOf, positiveReal}
-use Rattle.cgx_spec.specs.Dates.{within, calendar, goodDate}
+use Rattle.cgx_spec.specs.Dates.{within, lastSecond, calendar, goodDate}
 use Rattle.cgx_spec.specs.Strings.{textOf, same, goodString}
 use Rattle.cgx_spec.specs.Fields.{Field, optional, width, ruleOf, ones, inOrder, passes, good, pieces, every, All, keeps}
 use Rattle.cgx_spec.specs.Kinds.{layout}
@@ -67,7 +67,7 @@ date-iff b = (to, from)
           day = within-iff 1 31 (getD b 3 0) .0 (e₅ .1);
           hour = within-iff 0 23 (getD b 4 0) .0 (e₄ .1) .1;
           minute = within-iff 0 59 (getD b 5 0) .0 (e₃ .1) .1;
-          second = within-iff 0 59 (getD b 6 0) .0 (e₂ .1) .1;
+          second = let h = within-iff 0 lastSecond (getD b 6 0) .0 (e₂ .1) in omega arith;
           last = eqb-true (getD b 7 0) 0 (e₁ .1);
         }
 
@@ -77,7 +77,8 @@ date-iff b = (to, from)
         let d = within-iff 1 31 (getD b 3 0) .1 (i .day) in
         let h = within-iff 0 23 (getD b 4 0) .1 (omega arith, i .hour) in
         let n = within-iff 0 59 (getD b 5 0) .1 (omega arith, i .minute) in
-        let s = within-iff 0 59 (getD b 6 0) .1 (omega arith, i .second) in
+        let h₆ = i .second in
+        let s = within-iff 0 lastSecond (getD b 6 0) .1 (omega arith, omega arith) in
         and-iff _ _ .1 (and-iff _ _ .1 (and-iff _ _ .1 (and-iff _ _ .1 (and-iff _ _ .1 (m, d), h), n), s), eq-eqb (getD b 7 0) 0 (i .last))
 
 boxes-iff : (zs : List ℤ) → (inOrder zs ≡ true) ↔ Boxes zs

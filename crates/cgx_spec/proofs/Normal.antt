@@ -105,7 +105,7 @@ sound-fit [] h = tt
 sound-fit (p ∷ ps) h = (h .0, h .1, sound-fit ps (h .3))
 
 -- the field keeps rule n
-abbrev kept : ℕ → Piece → Bool
+abbrev pub kept : ℕ → Piece → Bool
 kept n p = not (eqb n (ruleOf (p .field))) || good (p .field) (p .bytes)
 
 kept-good : (f : Field) (b : List ℕ) → let p : Piece = record { field = f; bytes = b } in T (kept 9 p) → T (kept 10 p) → T (kept 11 p) → T (kept 12 p) → T (good f b)
@@ -132,7 +132,7 @@ sound (p ∷ ps) f h₉ h₁₀ h₁₁ h₁₂ =
     let e₁₂ = every-cons (kept 12) p ps h₁₂ in
     (f .0, f .1, kept-good (p .field) (p .bytes) (e₉ .0) (e₁₀ .0) (e₁₁ .0) (e₁₂ .0), sound ps (f .2) (e₉ .1) (e₁₀ .1) (e₁₁ .1) (e₁₂ .1))
 
-broken-none : (n : ℕ) (b : Bool) (rs : List Rule) → broken (rule n b ∷ rs) ≡ none → T b × (broken rs ≡ none)
+pub broken-none : (n : ℕ) (b : Bool) (rs : List Rule) → broken (rule n b ∷ rs) ≡ none → T b × (broken rs ≡ none)
 unfolding broken
 broken-none n true rs e = (tt, e)
 broken-none n false rs e = absurd (let z : _≡_ {A = ℕ} 0 1 = cc in omega arith)

@@ -10,6 +10,7 @@ use Rattle.cgx_spec.proofs.Steps.{reading-law}
 use Rattle.cgx_spec.proofs.Demand3.{demand3}
 use Rattle.cgx_spec.proofs.Agreement.{agreement}
 use Rattle.cgx_spec.proofs.Specimens.{all-hold, drawing-is}
+use Rattle.cgx_spec.proofs.Seconds.{seconds}
 
 pub promises : Promises
 promises =
@@ -22,4 +23,5 @@ promises =
       agreement = agreement;
       specimens = all-hold;
       drawing = drawing-is;
+      seconds = seconds;
     }

@@ -9,7 +9,7 @@ use Rattle.cgx_spec.specs.Kinds.{kindOf, textFlags, layout}
 use Rattle.cgx_spec.specs.Order.{start, allowed}
 use Rattle.cgx_spec.specs.Records.{bytesOf, piecesOf, normalOf, broken, rules, contextAfter}
 use Rattle.cgx_spec.specs.Files.{cutBody, cut, settle, judge, finish, step, walk, opening, begin, walkOf, verdictOf, recordsOf, known, sequence, normalForm}
-use Rattle.cgx_spec.specs.Specimens.{Holds, specimens, Drawing}
+use Rattle.cgx_spec.specs.Specimens.{Holds, specimens, Drawing, leapSeconds}
 
 infixr 20 _also_
 _also_ : {A B : Type 0} → A → B → A × B
@@ -22,4 +22,9 @@ all-hold =
 
 pub drawing-is : Drawing
 unfolding twos shortOf longOf longsOf negative exponent mantissa pack wordValue positive lower minus wordNormal positiveReal normalReal calendar goodDate textOf padded same goodString fits width ruleOf inOrder passes good normal pieces lengthsFit keeps normalBytes kindOf textFlags layout start allowed bytesOf piecesOf normalOf broken rules contextAfter cutBody cut settle judge finish step walk opening begin walkOf verdictOf recordsOf known sequence normalForm
-drawing-is = record { long = refl; taken = refl; offsets = refl; form = refl; second-59 = refl; second-60 = refl; text-flags = refl }
+drawing-is = record { long = refl; taken = refl; offsets = refl; form = refl; second-60 = refl; second-61 = refl; text-flags = refl }
+
+pub leap-seconds : All Holds leapSeconds
+unfolding twos shortOf longOf longsOf negative exponent mantissa pack wordValue positive lower minus wordNormal positiveReal normalReal calendar goodDate textOf padded same goodString fits width ruleOf inOrder passes good normal pieces lengthsFit keeps normalBytes kindOf textFlags layout start allowed bytesOf piecesOf normalOf broken rules contextAfter cutBody cut settle judge finish step walk opening begin walkOf verdictOf recordsOf known sequence normalForm
+leap-seconds =
+    (refl, refl) also (refl, refl) also (refl, refl) also (refl, refl) also (refl, refl) also refl also refl also refl also refl also refl also tt

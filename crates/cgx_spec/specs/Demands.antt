@@ -2,15 +2,15 @@
 -- proofs/Promises.antt proves it. Statements only.
 use mathlib.Core.Path.{_≡_}
 use mathlib.Core.Logic.{_↔_}
-use mathlib.Core.Bool.{Bool, true}
+use mathlib.Core.Bool.{Bool, true, cond}
 use mathlib.Core.List.{List, [], _∷_, _++_, map}
 use mathlib.Core.Option.{none, some}
-use Prim.Native.Nat.{ℕ, _/_, _%_, _^_, _≤_, _<_}
+use Prim.Native.Nat.{ℕ, _+_, _/_, _%_, _^_, _≤_, _<_}
 use lib.Count.{trailingZeros}
 use lib.Dec.{T, leb}
 use lib.Ieee.{Float, fin, binary64, fits}
 use lib.IntN.{ℤ, pos}
-use lib.ListN.{length, getElem?}
+use lib.ListN.{length, set, getElem?}
 use Rattle.cgx_spec.specs.declared.Kind.{Kind}
 use Rattle.cgx_spec.specs.declared.Offset.the-variants.{Nowhere, At}
 use Rattle.cgx_spec.specs.declared.Place.{Place}
@@ -19,6 +19,7 @@ use Rattle.cgx_spec.specs.declared.Verdict.the-variants.{Accepted as acc
 use Rattle.cgx_spec.specs.declared.Real.the-variants.{Exact, Inexact}
 use Rattle.cgx_spec.specs.Numbers.{Bytes, shortOf, longOf, longsOf, InRange, shortBytes, longBytes}
 use Rattle.cgx_spec.specs.Reals.{negative, exponent, mantissa, value, normal, IsNormal, answer, Means, answerValue}
+use Rattle.cgx_spec.specs.Dates.{goodDate}
 use Rattle.cgx_spec.specs.Strings.{textOf, goodString}
 use Rattle.cgx_spec.specs.Fields.{All, join, lengthsFit}
 use Rattle.cgx_spec.specs.Kinds.{kindOf, typeFor, goodFlags, flagsOf}
@@ -27,9 +28,9 @@ use Rattle.cgx_spec.specs.Records.{Rec, size, bytesOf, piecesOf, Placed,
 use Rattle.cgx_spec.specs.Files.{header, walkOf, verdictOf, Accepted, recordsOf, known, sequence, meanings, SameMeaning, normals, normalForm, viewsOf}
 use Rattle.cgx_spec.specs.Walking.{firstPlace, Answer, seen, done, refusedAt, ending, stepOf, reads}
 use Rattle.cgx_spec.specs.Written.{GoodFrom, placeAll, AddedTo}
-use Rattle.cgx_spec.specs.Restated.{typeByte, goodSize, highestFlags, FlagsAlike, IsString, RecordBefore, lookBack}
+use Rattle.cgx_spec.specs.Restated.{typeByte, goodSize, highestFlags, FlagsAlike, datesAt, IsString, RecordBefore, lookBack}
 use Rattle.cgx_spec.specs.Checks.{True}
-use Rattle.cgx_spec.specs.Specimens.{Holds, specimens, Drawing}
+use Rattle.cgx_spec.specs.Specimens.{Holds, specimens, Drawing, leapSeconds}
 
 -- ---- demand 1: every file gets an answer
 
@@ -136,6 +137,18 @@ pub record Agreement : Type 0 where
   -- Same meaning is "equally many records and, for every k," the same meaning of the k-th.
   pub each : (f g : List ℕ) → let ms = meanings (sequence f) in let ns = meanings (sequence g) in SameMeaning f g ↔ ((length ms ≡ length ns) × ((k : ℕ) → getElem? ms k ≡ getElem? ns k))
 
+-- ---- Req 02: "Seconds 0 to 60 are accepted in all dates, by reader and writer; 61 is refused with 9." (The writer: `GivenSeconds` in `cgx_write_given`.)
+
+pub record Seconds : Type 0 where
+  -- A good date stays one with any second up to 60, and with no other.
+  pub date : (b : List ℕ) → length b ≡ 8 → goodDate b ≡ true → (s : ℕ) → goodDate (set b 6 s) ≡ leb s 60
+  -- So does an accepted file: with a byte s as the second of any date of any of its records it is accepted up to 60, and else refused with 9 at that record.
+  pub file : (f : List ℕ) → Bytes f → Accepted f → (earlier : List Rec) (r : Rec) (later : List Rec) → recordsOf f ≡ earlier ++ (r ∷ later)
+      → (k : Kind) → kindOf (r .type) ≡ some k → (s : ℕ) → s < 256
+      → let at = 4 + length (join bytesOf earlier) in All (λ date. verdictOf (set f (at + date + 6) s) ≡ cond (leb s 60) accepted (refused 9 at)) (datesAt k)
+  -- A drawing with second 60 in each of its four dates is its own normal form, and with 61 it is refused.
+  pub specimens : All Holds leapSeconds
+
 -- ---- all of it
 
 pub record Promises : Type 0 where
@@ -148,3 +161,4 @@ pub record Promises : Type 0 where
   -- 01's specimens marked P, and its file of 96 bytes.
   pub specimens : All Holds specimens
   pub drawing : Drawing
+  pub seconds : Seconds

@@ -244,13 +244,14 @@ pub record IsString (b t : List ℕ) : Type 0 where
 
 -- ---- dates and boxes
 
--- "month 1 to 12, day 1 to 31, hour 0 to 23, minute 0 to 59, second 0 to 59, and a zero byte."
+-- "month 1 to 12, day 1 to 31, hour 0 to 23, minute 0 to 59, .. and a zero byte." Of the second, Req 02: "The CGX page defines the field as the C library's tm_sec, whose
+-- range is 0 to 60".
 pub record IsDate (b : List ℕ) : Type 0 where
   pub month : (1 ≤ getD b 2 0) × (getD b 2 0 ≤ 12)
   pub day : (1 ≤ getD b 3 0) × (getD b 3 0 ≤ 31)
   pub hour : getD b 4 0 ≤ 23
   pub minute : getD b 5 0 ≤ 59
-  pub second : getD b 6 0 ≤ 59
+  pub second : getD b 6 0 ≤ 60
   pub last : getD b 7 0 ≡ 0
 
 -- "left ≤ right, bottom ≤ top", of each box: left, bottom, right, top.

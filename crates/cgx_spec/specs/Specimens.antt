@@ -1,4 +1,4 @@
--- 01, "Specimens": those marked P as one list, and the file of 96 bytes under "Lister". Statements only.
+-- 01, "Specimens": those marked P as one list, and the file of 96 bytes under "Lister"; and that of Req 02. Statements only.
 use mathlib.Core.Path.{_≡_}
 use mathlib.Core.Bool.{true, false}
 use mathlib.Core.List.{List, [], _∷_, _++_, map}
@@ -18,6 +18,8 @@ use Rattle.cgx_spec.specs.Files.{header, walkOf, verdictOf, normalForm}
 pub data Specimen : Type 0 where
   -- a file and the verdict on it
   file : List ℕ → Verdict → Specimen
+  -- an accepted file that is its own normal form
+  normalFile : List ℕ → Specimen
   -- a field that is a string, and its text
   string : List ℕ → List ℕ → Specimen
   -- a field that is no string
@@ -29,6 +31,7 @@ pub data Specimen : Type 0 where
 
 abbrev pub Holds : Specimen → Type 0
 Holds (file f v) = verdictOf f ≡ v
+Holds (normalFile f) = (verdictOf f ≡ accepted) × (normalForm f ≡ f)
 Holds (string b t) = (goodString b ≡ true) × (textOf b ≡ t)
 Holds (noString b) = goodString b ≡ false
 Holds (long b z) = longOf b ≡ z
@@ -73,15 +76,19 @@ drawing =
     ∷ 0 ∷ 4 ∷ 10 ∷ 0xff
     ∷ []
 
-abbrev pub drawingNormal : List ℕ
-drawingNormal =
+-- In normal form, with these seconds: LIBRARY's two, then STRUCT's.
+abbrev pub stamped : ℕ → ℕ → ℕ → ℕ → List ℕ
+stamped a b c d =
     header
-    ++ 0 ∷ 38 ∷ 0 ∷ 7 ∷ 0x41 ∷ 0x10 ∷ 0 ∷ 0 ∷ 0 ∷ 0 ∷ 0 ∷ 0 ∷ 0x41 ∷ 0x10 ∷ 0 ∷ 0 ∷ 0 ∷ 0 ∷ 0 ∷ 0 ∷ 7 ∷ 198 ∷ 1 ∷ 1 ∷ 0 ∷ 0 ∷ 0 ∷ 0 ∷ 7 ∷ 198 ∷ 1 ∷ 1 ∷ 0 ∷ 0 ∷ 0 ∷ 0 ∷ 0x6d ∷ 0
-    ∷ 0 ∷ 22 ∷ 1 ∷ 0 ∷ 7 ∷ 208 ∷ 2 ∷ 28 ∷ 23 ∷ 59 ∷ 59 ∷ 0 ∷ 7 ∷ 208 ∷ 2 ∷ 28 ∷ 23 ∷ 59 ∷ 59 ∷ 0 ∷ 0x61 ∷ 0
+    ++ 0 ∷ 38 ∷ 0 ∷ 7 ∷ 0x41 ∷ 0x10 ∷ 0 ∷ 0 ∷ 0 ∷ 0 ∷ 0 ∷ 0 ∷ 0x41 ∷ 0x10 ∷ 0 ∷ 0 ∷ 0 ∷ 0 ∷ 0 ∷ 0 ∷ 7 ∷ 198 ∷ 1 ∷ 1 ∷ 0 ∷ 0 ∷ a ∷ 0 ∷ 7 ∷ 198 ∷ 1 ∷ 1 ∷ 0 ∷ 0 ∷ b ∷ 0 ∷ 0x6d ∷ 0
+    ∷ 0 ∷ 22 ∷ 1 ∷ 0 ∷ 7 ∷ 208 ∷ 2 ∷ 28 ∷ 23 ∷ 59 ∷ c ∷ 0 ∷ 7 ∷ 208 ∷ 2 ∷ 28 ∷ 23 ∷ 59 ∷ d ∷ 0 ∷ 0x61 ∷ 0
     ∷ 0 ∷ 8 ∷ 4 ∷ 0 ∷ 0 ∷ 1 ∷ 0 ∷ 0
     ∷ 0 ∷ 20 ∷ 5 ∷ 0 ∷ 0xff ∷ 0xff ∷ 0xff ∷ 0xff ∷ 0 ∷ 0 ∷ 0 ∷ 0 ∷ 0 ∷ 0 ∷ 0 ∷ 10 ∷ 0 ∷ 0 ∷ 0 ∷ 20
     ∷ 0 ∷ 4 ∷ 10 ∷ 0
     ∷ []
+
+abbrev pub drawingNormal : List ℕ
+drawingNormal = stamped 0 0 59 59
 
 pub record Drawing : Type 0 where
   pub long : length drawing ≡ 96
@@ -89,8 +96,21 @@ pub record Drawing : Type 0 where
   -- its offsets, as the lister prints them
   pub offsets : map (λ p. p .at) (walkOf drawing .records) ≡ 4 ∷ 42 ∷ 64 ∷ 72 ∷ 92 ∷ []
   pub form : normalForm drawing ≡ drawingNormal
-  -- "Second 59 taken, 60 refused."
-  pub second-59 : goodDate (7 ∷ 208 ∷ 2 ∷ 28 ∷ 23 ∷ 59 ∷ 59 ∷ 0 ∷ []) ≡ true
-  pub second-60 : goodDate (7 ∷ 208 ∷ 2 ∷ 28 ∷ 23 ∷ 59 ∷ 60 ∷ 0 ∷ []) ≡ false
+  -- 01's "Second 59 taken, 60 refused", as Req 02 changes it: 60 taken, 61 refused.
+  pub second-60 : goodDate (7 ∷ 208 ∷ 2 ∷ 28 ∷ 23 ∷ 59 ∷ 60 ∷ 0 ∷ []) ≡ true
+  pub second-61 : goodDate (7 ∷ 208 ∷ 2 ∷ 28 ∷ 23 ∷ 59 ∷ 61 ∷ 0 ∷ []) ≡ false
   -- "TEXT flags f0 become 00."
   pub text-flags : flagsOf Text 0xf0 ≡ 0
+
+-- ---- Req 02: "Seconds 0 to 60 are accepted in all dates, by reader and writer; 61 is refused with 9."
+
+-- The drawing, stamped on a leap second in each of its four dates; and on second 61.
+abbrev pub leapSeconds : List Specimen
+leapSeconds =
+    normalFile (stamped 60 0 0 0) ∷ normalFile (stamped 0 60 0 0) ∷ normalFile (stamped 0 0 60 0) ∷ normalFile (stamped 0 0 0 60) ∷ normalFile (stamped 60 60 60 60)
+    ∷ file (stamped 61 0 0 0) (refused 9 4)
+    ∷ file (stamped 0 61 0 0) (refused 9 4)
+    ∷ file (stamped 0 0 61 0) (refused 9 42)
+    ∷ file (stamped 0 0 0 61) (refused 9 42)
+    ∷ file (stamped 0 0 0 255) (refused 9 42)
+    ∷ []

@@ -5,6 +5,7 @@ use Rattle.cgx_write_given.proofs.Histories.{any-calls}
 use Rattle.cgx_write_given.proofs.Rooms.{round-trip, no-room}
 use Rattle.cgx_write_given.proofs.Stores.{untouched, numbered, goes-on}
 use Rattle.cgx_write_given.proofs.Calling.{calls-promises}
+use Rattle.cgx_write_given.proofs.Seconds.{given-seconds}
 use Rattle.cgx_write_given.proofs.Specimens.{specimens}
 
 pub writer-promises : WriterPromises
@@ -14,5 +15,6 @@ writer-promises =
       untouched = untouched;
       rules = record { same-rules = same-rules; numbered = numbered; goes-on = goes-on };
       given = calls-promises;
+      seconds = given-seconds;
       specimens = specimens;
     }

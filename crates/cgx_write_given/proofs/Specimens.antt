@@ -1,9 +1,9 @@
--- The calls of 01's drawing, and its 4,096 boxes: the definitions compute them.
+-- The calls of 01's drawing, at its seconds and at leap seconds, and its 4,096 boxes: the definitions compute them.
 use mathlib.Core.Path.{_≡_, refl}
 use mathlib.Core.Bool.{true, false}
 use mathlib.Core.List.{List, [], _∷_, _++_}
 use mathlib.Core.Option.{some}
-use Prim.Native.Nat.{_+_}
+use Prim.Native.Nat.{ℕ, _+_, _<_}
 use native.Mathlib.Omega.{arith}
 use lib.Dec.{leb, leb→le}
 use lib.IntN.{ℤ, pos, negsuc}
@@ -18,7 +18,7 @@ use Rattle.cgx_spec.specs.Kinds.{kindOf, goodFlags, layout}
 use Rattle.cgx_spec.specs.Order.{start, allowed}
 use Rattle.cgx_spec.specs.Records.{size, bytesOf, broken, contextAfter}
 use Rattle.cgx_spec.specs.Walking.{firstPlace, placeAfter}
-use Rattle.cgx_spec.specs.Specimens.{drawingNormal}
+use Rattle.cgx_spec.specs.Specimens.{drawingNormal, stamped}
 use Rattle.cgx_spec.proofs.Lists.{¬T→false, Bytes-cons, Bytes-nil}
 use Rattle.buffers.specs.Put.{longsBytes}
 use Rattle.buffers.proofs.Puts.{length-longs}
@@ -26,25 +26,48 @@ use Rattle.cgx_format_cursor.specs.Cursors.{offsetIn, runIn, contextIn, placeIn
 use Rattle.cgx_format_fields.specs.Zeros.{noZero}
 use Rattle.cgx_write_given.specs.Given.{dateBytes, stored, groups, enough, meets, goodList, goodItem, enoughGiven, keepsGiven, written, givenLibrary, givenStruct, givenLayer, givenBox, givenEndlib}
 use Rattle.cgx_write_given.specs.Writing.{firstWriter, writerAfter, maxSize, allowedHere, rulesOf, fileOf}
-use Rattle.cgx_write_given.specs.Specimens.{begun, ended, drawingCalls}
-use Rattle.cgx_write_given.specs.Typed.{Longs, IsDate}
-use Rattle.cgx_write_given.specs.Demands.{Whole, Specimens}
+use Rattle.cgx_write_given.specs.Specimens.{begun, ended, drawnAt, drawingCalls, stampedCalls}
+use Rattle.cgx_write_given.specs.Typed.{Longs, IsDate, AllWell}
+use Rattle.cgx_write_given.specs.Demands.{Whole, CallsPromises, Specimens}
 use Rattle.cgx_write_given.proofs.Calling.{calls-promises}
 
 drawing-file : fileOf drawingCalls ≡ drawingNormal
 unfolding fileOf bytesOf written stored dateBytes untwos shortBytes longBytes longsBytes normalReal wordNormal negative exponent mantissa pack lower minus padded givenLibrary givenStruct givenLayer givenBox givenEndlib
 drawing-file = refl
 
+stamped-file : fileOf stampedCalls ≡ stamped 60 60 60 60
+unfolding fileOf bytesOf written stored dateBytes untwos shortBytes longBytes longsBytes normalReal wordNormal negative exponent mantissa pack lower minus padded givenLibrary givenStruct givenLayer givenBox givenEndlib
+stamped-file = refl
+
+drawn-typed : (a b c d : ℕ) → a < 256 → b < 256 → c < 256 → d < 256 → AllWell (drawnAt a b c d)
+drawn-typed a b c d ha hb hc hd = (
+  g .library 7 _ _ (begun a) (begun b) _ (omega arith) (early a ha) (early b hb) (Bytes-cons 0x6d [] (omega arith) Bytes-nil),
+  (g .struct (ended c) (ended d) _ (late c hc) (late d hd) (Bytes-cons 0x61 [] (omega arith) Bytes-nil), (g .layer _ _ (omega arith) (omega arith), (g .box _ sides, (g .endlib, tt)))),
+)
+  where
+    g : CallsPromises
+    g = calls-promises
+
+    early : (s : ℕ) → s < 256 → IsDate (begun s)
+    early s h = record { year = omega arith; month = omega arith; day = omega arith; hour = omega arith; minute = omega arith; second = h }
+
+    late : (s : ℕ) → s < 256 → IsDate (ended s)
+    late s h = record { year = omega arith; month = omega arith; day = omega arith; hour = omega arith; minute = omega arith; second = h }
+
+    sides : Longs (negsuc 0 ∷ pos 0 ∷ pos 10 ∷ pos 20 ∷ [])
+    sides = (omega arith, (omega arith, (omega arith, (omega arith, tt))))
+
 drawing-whole : Whole firstWriter drawingCalls
 unfolding firstWriter firstPlace start writerAfter placeAfter placeIn contextIn offsetIn runIn cursorOf stateOf contextAfter kindOf broken rulesOf allowed enoughGiven keepsGiven groups enough noZero meets goodList goodItem layout ruleOf inOrder calendar positiveReal positive wordValue written stored dateBytes untwos shortBytes longBytes longsBytes normalReal wordNormal negative exponent mantissa pack lower minus padded givenLibrary givenStruct givenLayer givenBox givenEndlib
 drawing-whole =
-    let m = Bytes-cons 0x6d [] (omega arith) Bytes-nil in
-    let a = Bytes-cons 0x61 [] (omega arith) Bytes-nil in
-    let d : IsDate begun = record { year = omega arith; month = omega arith; day = omega arith; hour = omega arith; minute = omega arith; second = omega arith } in
-    let e : IsDate ended = record { year = omega arith; month = omega arith; day = omega arith; hour = omega arith; minute = omega arith; second = omega arith } in
-    let sides : Longs (negsuc 0 ∷ pos 0 ∷ pos 10 ∷ pos 20 ∷ []) = (omega arith, (omega arith, (omega arith, (omega arith, tt)))) in
-    let g = calls-promises in
-    (g .library 7 _ _ begun begun _ (omega arith) d d m, refl, (g .struct ended ended _ e e a, refl, (g .layer _ _ (omega arith) (omega arith), refl, (g .box _ sides, refl, (g .endlib, refl, refl)))))
+    let t = drawn-typed 0 0 59 59 (omega arith) (omega arith) (omega arith) (omega arith) in
+    (t .0, refl, (t .1 .0, refl, (t .1 .1 .0, refl, (t .1 .1 .1 .0, refl, (t .1 .1 .1 .1 .0, refl, refl)))))
+
+stamped-whole : Whole firstWriter stampedCalls
+unfolding firstWriter firstPlace start writerAfter placeAfter placeIn contextIn offsetIn runIn cursorOf stateOf contextAfter kindOf broken rulesOf allowed enoughGiven keepsGiven groups enough noZero meets goodList goodItem layout ruleOf inOrder calendar positiveReal positive wordValue written stored dateBytes untwos shortBytes longBytes longsBytes normalReal wordNormal negative exponent mantissa pack lower minus padded givenLibrary givenStruct givenLayer givenBox givenEndlib
+stamped-whole =
+    let t = drawn-typed 60 60 60 60 (omega arith) (omega arith) (omega arith) (omega arith) in
+    (t .0, refl, (t .1 .0, refl, (t .1 .1 .0, refl, (t .1 .1 .1 .0, refl, (t .1 .1 .1 .1 .0, refl, refl)))))
 
 -- ---- 4,096 boxes keep every rule but 15
 
@@ -87,4 +110,4 @@ boxes-4096 c sides h o l =
     rw (h, flags-kept sides, whole-boxes sides l, no-date sides, ordered-boxes sides o, no-text sides, not-closed sides, big)
 
 pub specimens : Specimens
-specimens = record { drawing-whole = drawing-whole; drawing-file = drawing-file; boxes-4096 = boxes-4096 }
+specimens = record { drawing-whole = drawing-whole; drawing-file = drawing-file; stamped-whole = stamped-whole; stamped-file = stamped-file; boxes-4096 = boxes-4096 }

@@ -5,6 +5,7 @@ use mathlib.Core.Bool.{true, cond}
 use mathlib.Core.List.{List, [], _∷_, _++_, map}
 use mathlib.Core.Option.{none, some}
 use Prim.Native.Nat.{ℕ, _≤_, _<_}
+use lib.Dec.{leb}
 use lib.IntN.{ℤ}
 use lib.ListN.{length, take, getD}
 use Rattle.cgx_spec.specs.declared.Context.{Context}
@@ -14,7 +15,7 @@ use Rattle.cgx_spec.specs.Kinds.{angle, magnif, array}
 use Rattle.cgx_spec.specs.Records.{size, broken, faultOf, viewMeaning}
 use Rattle.cgx_spec.specs.Files.{header, Accepted, sequence, meanings, normalForm}
 use Rattle.cgx_spec.specs.Walking.{firstPlace, done, stepOf, reads}
-use Rattle.cgx_spec.specs.Specimens.{drawingNormal}
+use Rattle.cgx_spec.specs.Specimens.{drawingNormal, stamped}
 use Rattle.cgx_format_kinds.specs.declared.Date.{Date}
 use Rattle.cgx_format_kinds.specs.declared.LayerNo.{LayerNo}
 use Rattle.cgx_format_kinds.specs.declared.DataType.{DataType}
@@ -26,7 +27,7 @@ use Rattle.cgx_write_given.specs.declared.Writer.{Writer}
 use Rattle.cgx_write_given.specs.Given.{Given, keepsGiven, meant, written, styleOf, givenLibrary, givenStruct, givenCprpty, givenProperty, givenLayer, givenBox, givenPoly, givenWire, givenText, givenSref, givenEndlib}
 use Rattle.cgx_write_given.specs.Typed.{Short, Long, Longs, IsDate, IsPoint, IsGrid, WellTyped, AllWell}
 use Rattle.cgx_write_given.specs.Writing.{offsetOf, contextOf, firstWriter, writerAfter, maxSize, allowedHere, rulesOf, callIn, startIn, History, fromStart, fileOf}
-use Rattle.cgx_write_given.specs.Specimens.{drawingCalls}
+use Rattle.cgx_write_given.specs.Specimens.{drawingCalls, stampedCalls}
 
 -- ---- what is given
 
@@ -115,12 +116,31 @@ pub record CallsPromises : Type 0 where
   -- "A wire may be written without an end style; flush (0) is then used."
   pub unstated : (width : ℤ) (points : List ℤ) → givenWire Unstated width points ≡ givenWire (Stated 0) width points
 
+-- ---- Req 02: "Seconds 0 to 60 are accepted in all dates, by reader and writer; 61 is refused with 9."
+
+-- The date with another second.
+abbrev pub atSecond : ℕ → Date → Date
+atSecond s d = record { year = d .year; month = d .month; day = d .day; hour = d .hour; minute = d .minute; second = s }
+
+-- A call that is taken with some date is taken with every second up to 60 in it, and answered 9 with any other.
+abbrev pub AnySecond : (Date → Given) → Type 0
+AnySecond call = (buf : List ℕ) (w : Writer) (d : Date) (s : ℕ) → callIn buf w (call d) .answer .number ≡ 0 → callIn buf w (call (atSecond s d)) .answer .number ≡ cond (leb s 60) 0 9
+
+pub record GivenSeconds : Type 0 where
+  pub library-created : (version : ℕ) (munit uunit : List ℕ) (modified : Date) (name : List ℕ) → AnySecond (λ d. givenLibrary version munit uunit d modified name)
+  pub library-modified : (version : ℕ) (munit uunit : List ℕ) (created : Date) (name : List ℕ) → AnySecond (λ d. givenLibrary version munit uunit created d name)
+  pub struct-created : (modified : Date) (name : List ℕ) → AnySecond (λ d. givenStruct d modified name)
+  pub struct-modified : (created : Date) (name : List ℕ) → AnySecond (λ d. givenStruct created d name)
+
 -- ---- specimens
 
 pub record Specimens : Type 0 where
   -- The calls of 01's drawing keep every rule, and write its normal form.
   pub drawing-whole : Whole firstWriter drawingCalls
   pub drawing-file : fileOf drawingCalls ≡ drawingNormal
+  -- Req 02: the same with second 60 in all four dates.
+  pub stamped-whole : Whole firstWriter stampedCalls
+  pub stamped-file : fileOf stampedCalls ≡ stamped 60 60 60 60
   -- "4,096 boxes given to the writer: 15."
   pub boxes-4096 : (c : Context) (sides : List ℤ) → allowedHere c (givenBox sides) ≡ true → inOrder sides ≡ true → length sides ≡ 16384 → broken (rulesOf c (givenBox sides)) ≡ some 15
 
@@ -129,4 +149,5 @@ pub record WriterPromises : Type 0 where
   pub untouched : Untouched
   pub rules : RulesPromises
   pub given : CallsPromises
+  pub seconds : GivenSeconds
   pub specimens : Specimens

@@ -282,7 +282,7 @@ fn bad_dates() -> Vec<BadCall> {
         Date { day: 32, ..good },
         Date { hour: 24, ..good },
         Date { minute: 60, ..good },
-        Date { second: 60, ..good },
+        Date { second: 61, ..good },
         Date {
             second: 255,
             ..good
@@ -449,7 +449,7 @@ fn bad_orders() -> Vec<BadCall> {
         version: 0,
         units: [[0; 8]; 2],
         dates: [Date {
-            second: 60,
+            second: 61,
             ..PLAIN_DATE
         }; 2],
         name: vec![0],

@@ -414,7 +414,7 @@ fn any_date(rng: &mut Rng) -> Date {
         day: near(&[0, 1, 31, 32]),
         hour: near(&[0, 23, 24]),
         minute: near(&[0, 59, 60]),
-        second: near(&[0, 59, 60]),
+        second: near(&[0, 60, 61]),
     }
 }
 

@@ -118,7 +118,7 @@ fn damage_record(rng: &mut Rng, record: &mut Loose) -> Option<u8> {
                 (3, 32),
                 (4, 24),
                 (5, 60),
-                (6, 60),
+                (6, 61),
                 (7, 1),
                 (7, 255),
             ]);

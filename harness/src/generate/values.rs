@@ -47,7 +47,7 @@ pub fn date(rng: &mut Rng) -> Date {
         _ => rng.between(low, high) as u8,
     };
     let (month, day) = (ranged(1, 12), ranged(1, 31));
-    let (hour, minute, second) = (ranged(0, 23), ranged(0, 59), ranged(0, 59));
+    let (hour, minute, second) = (ranged(0, 23), ranged(0, 59), ranged(0, 60));
     Date {
         year: short(rng),
         month,

@@ -36,14 +36,15 @@ impl Date {
         }
     }
 
-    /// Any year will do, and the day is not compared with the month.
+    /// Any year will do, and the day is not compared with the month. Second 60,
+    /// the leap second, is allowed in any minute.
     #[inline]
     pub fn is_good(self) -> bool {
         (1..=12).contains(&self.month)
             && (1..=31).contains(&self.day)
             && self.hour <= 23
             && self.minute <= 59
-            && self.second <= 59
+            && self.second <= 60
     }
 
     /// Whether the eight bytes are a date, its zero byte included.
