@@ -137,18 +137,19 @@ unfolding broken
 broken-none n true rs e = (tt, e)
 broken-none n false rs e = absurd (let z : _≡_ {A = ℕ} 0 1 = cc in omega arith)
 
--- of a record that breaks no rule, the fields fit and the strings are good
-pub rules-kept : (s : Bool) (k : Kind) (r : Rec) → broken (rules s (some k) r) ≡ none → (lengthsFit (piecesOf k r) ≡ true) × (keeps 11 (piecesOf k r) ≡ true)
-unfolding rules
-rules-kept s k r e =
-    let ps = piecesOf k r in
-    let e₈ = broken-none 8 (lengthsFit ps) _ (broken-none 7 (goodFlags k (r .flags)) _ (broken-none 6 s _ e .1) .1) in
-    let e₁₁ = broken-none 11 (keeps 11 ps) _ (broken-none 10 (keeps 10 ps) _ (broken-none 9 (keeps 9 ps) _ (e₈ .1) .1) .1) in
-    (T→true (e₈ .0), T→true (e₁₁ .0))
+-- a record that breaks no rule keeps each
+pub record AllKept (s : Bool) (k : Kind) (r : Rec) : Type 0 where
+  pub place : T s
+  pub flags : T (goodFlags k (r .flags))
+  pub lengths : T (lengthsFit (piecesOf k r))
+  pub nine : T (keeps 9 (piecesOf k r))
+  pub ten : T (keeps 10 (piecesOf k r))
+  pub eleven : T (keeps 11 (piecesOf k r))
+  pub twelve : T (keeps 12 (piecesOf k r))
 
-pub keeps-rules : (s : Bool) (k : Kind) (r : Rec) → Bytes (r .body) → broken (rules s (some k) r) ≡ none → Sound (piecesOf k r)
+pub all-kept : (s : Bool) (k : Kind) (r : Rec) → broken (rules s (some k) r) ≡ none → AllKept s k r
 unfolding rules
-keeps-rules s k r hb e =
+all-kept s k r e =
     let ps = piecesOf k r in
     let e₆ = broken-none 6 s _ e in
     let e₇ = broken-none 7 (goodFlags k (r .flags)) _ (e₆ .1) in
@@ -157,7 +158,16 @@ keeps-rules s k r hb e =
     let e₁₀ = broken-none 10 (keeps 10 ps) _ (e₉ .1) in
     let e₁₁ = broken-none 11 (keeps 11 ps) _ (e₁₀ .1) in
     let e₁₂ = broken-none 12 (keeps 12 ps) _ (e₁₁ .1) in
-    sound ps (unfold piecesOf in (fit (layout k (r .flags)) (r .body) hb (e₈ .0))) (e₉ .0) (e₁₀ .0) (e₁₁ .0) (e₁₂ .0)
+    record { place = e₆ .0; flags = e₇ .0; lengths = e₈ .0; nine = e₉ .0; ten = e₁₀ .0; eleven = e₁₁ .0; twelve = e₁₂ .0 }
+
+-- the fields fit and the strings are good
+pub rules-kept : (s : Bool) (k : Kind) (r : Rec) → broken (rules s (some k) r) ≡ none → (lengthsFit (piecesOf k r) ≡ true) × (keeps 11 (piecesOf k r) ≡ true)
+rules-kept s k r e = let h = all-kept s k r e in (T→true (h .lengths), T→true (h .eleven))
+
+pub keeps-rules : (s : Bool) (k : Kind) (r : Rec) → Bytes (r .body) → broken (rules s (some k) r) ≡ none → Sound (piecesOf k r)
+keeps-rules s k r hb e =
+    let h = all-kept s k r e in
+    sound (piecesOf k r) (unfold piecesOf in (fit (layout k (r .flags)) (r .body) hb (h .lengths))) (h .nine) (h .ten) (h .eleven) (h .twelve)
 
 -- ---- equal meanings
 

@@ -1,6 +1,6 @@
 -- Req 02: the second of a date decides by itself, in a date, in a record and in a whole file.
 use mathlib.Core.Path.{_≡_, refl, sym, ap, ap₂, _∙_, subst}
-use mathlib.Core.Bool.{Bool, true, false, not, _&&_, _||_, cond}
+use mathlib.Core.Bool.{Bool, true, false, _&&_, cond}
 use mathlib.Core.List.{List, [], _∷_, _++_, append-assoc}
 use mathlib.Core.Option.{Option, none, some}
 use Prim.Native.Nat.{ℕ, zero, suc, _+_, _≤_, _<_}
@@ -16,7 +16,7 @@ use Rattle.cgx_spec.specs.declared.Verdict.the-variants.{Accepted as acc
 use Rattle.cgx_spec.specs.Numbers.{Bytes}
 use Rattle.cgx_spec.specs.Dates.{within, lastSecond, calendar, goodDate}
 use Rattle.cgx_spec.specs.Fields.{Field, date, fits, width, ruleOf, good, Piece, pieces, All, join, lengthsFit, keeps}
-use Rattle.cgx_spec.specs.Kinds.{kindOf, goodFlags, layout}
+use Rattle.cgx_spec.specs.Kinds.{kindOf, layout}
 use Rattle.cgx_spec.specs.Order.{start, OrderFacts, factsOf}
 use Rattle.cgx_spec.specs.Records.{Rec, size, bytesOf, piecesOf, rule, broken, rules, contextAfter}
 use Rattle.cgx_spec.specs.Files.{stop, settle, judge, finish, step, cut, walk, header, opening, begin, walkOf, verdictOf, Accepted, recordsOf}
@@ -25,7 +25,7 @@ use Rattle.cgx_spec.specs.Restated.{datesAt}
 use Rattle.cgx_spec.specs.Demands.{Seconds}
 use Rattle.cgx_spec.proofs.Lists.{T→true, true→T, every-cons, and-true}
 use Rattle.cgx_spec.proofs.Cuts.{eight-room}
-use Rattle.cgx_spec.proofs.Normal.{kept, broken-none}
+use Rattle.cgx_spec.proofs.Normal.{kept, all-kept}
 use Rattle.cgx_spec.proofs.Chain.{may, then, may-is, fault, Chain, placed, cut-of, step-of, after-is, walk-complete, length-join, file-sound}
 use Rattle.cgx_spec.proofs.Specimens.{leap-seconds}
 
@@ -127,24 +127,17 @@ only-nine a b c d e f g i = broken (rule 6 (a i) ∷ rule 7 (b i) ∷ rule 8 (c 
 with-fault : (ok : Bool) (k : Kind) (r : Rec) (i s : ℕ) → SecondAt (layout k (r .flags)) i → broken (rules ok (some k) r) ≡ none → (i < length (r .body)) × (broken (rules ok (some k) (with i s r)) ≡ cond (leb s 60) none (some 9))
 unfolding rules piecesOf
 with-fault ok k r i s at e =
-    let ps = pieces (layout k (r .flags)) (r .body) in
-    let st = stamped at (r .body) s in
-    let e₆ = broken-none 6 ok _ e in
-    let e₇ = broken-none 7 (goodFlags k (r .flags)) _ (e₆ .1) in
-    let e₈ = broken-none 8 (lengthsFit ps) _ (e₇ .1) in
-    let e₉ = broken-none 9 (keeps 9 ps) _ (e₈ .1) in
-    let e₁₀ = broken-none 10 (keeps 10 ps) _ (e₉ .1) in
-    let e₁₁ = broken-none 11 (keeps 11 ps) _ (e₁₀ .1) in
-    let e₁₂ = broken-none 12 (keeps 12 ps) _ (e₁₁ .1) in (
-      st .inside (e₈ .0),
+    let h = all-kept ok k r e in
+    let st = stamped at (r .body) s in (
+      st .inside (h .lengths),
       only-nine
-          (T→true (e₆ .0))
-          (T→true (e₇ .0))
-          (st .fit ∙ T→true (e₈ .0))
-          (st .dates (e₈ .0) (e₉ .0))
-          (st .others 10 refl ∙ T→true (e₁₀ .0))
-          (st .others 11 refl ∙ T→true (e₁₁ .0))
-          (st .others 12 refl ∙ T→true (e₁₂ .0)),
+          (T→true (h .place))
+          (T→true (h .flags))
+          (st .fit ∙ T→true (h .lengths))
+          (st .dates (h .lengths) (h .nine))
+          (st .others 10 refl ∙ T→true (h .ten))
+          (st .others 11 refl ∙ T→true (h .eleven))
+          (st .others 12 refl ∙ T→true (h .twelve)),
     )
 
 -- a byte put into bytes
