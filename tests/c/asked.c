@@ -164,3 +164,29 @@ uint32_t ask_real(double value, cgx_real *real) {
     filled(&real_slot, number == CGX_OK, real, "the real of a double that none equals");
     return number;
 }
+
+/* ---- two questions that several files ask */
+
+bool is_normal(blob file) {
+    blob form = {lend(file.size), file.size};
+    uint64_t length = 0;
+    bool good = ask_normal_form(file, form, &length).number == CGX_OK && length == file.size && same_bytes(form, file);
+    drop(form);
+    return good;
+}
+
+bool date_in(blob file, uint64_t at, bool modified, cgx_date *date) {
+    cgx_place place;
+    cgx_view view;
+    const cgx_fields *f = &view.fields;
+    memset(&place, FILL, sizeof place);
+    memset(&view, FILL, sizeof view);
+    if (ask_start(file, &place).number != CGX_OK) return false;
+    while (ask_step(file, &place, &view).number == CGX_OK) {
+        if (view.at != at) continue;
+        if (view.kind == CGX_LIBRARY) *date = modified ? f->library.modified : f->library.created;
+        if (view.kind == CGX_STRUCT) *date = modified ? f->structure.modified : f->structure.created;
+        return view.kind == CGX_LIBRARY || view.kind == CGX_STRUCT;
+    }
+    return false;
+}

@@ -27,6 +27,12 @@ told ask_normal_form(blob file, blob out, uint64_t *length);
 uint32_t ask_double(cgx_real real, double *value);
 uint32_t ask_real(double value, cgx_real *real);
 
+/* Whether the file is accepted and its own normal form. */
+bool is_normal(blob file);
+
+/* A date of the LIBRARY or STRUCT at this offset, as a walk gives it; whether there is one. */
+bool date_in(blob file, uint64_t at, bool modified, cgx_date *date);
+
 /* Whether some answer was this number, so far. */
 bool was_seen(uint32_t number);
 

@@ -166,36 +166,18 @@ static void most_boxes(void) {
 
 /* ---- every second of each date: 0 to 60 are taken, given, and in normal form as they are; 61 to 255 are 9 */
 
-static bool gives_second(blob file, uint64_t at, bool modified, uint8_t second) {
-    cgx_place place = unused_cgx_place();
-    cgx_view view = unused_cgx_view();
-    const cgx_fields *f = &view.fields;
-    ask_start(file, &place);
-    while (ask_step(file, &place, &view).number == CGX_OK && view.at < at) continue;
-    if (view.at != at) return false;
-    if (view.kind == CGX_LIBRARY) return (modified ? f->library.modified : f->library.created).second == second;
-    return (modified ? f->structure.modified : f->structure.created).second == second;
-}
-
-static bool is_normal(blob file) {
-    blob form = {lend(file.size), file.size};
-    uint64_t length = unused_uint64_t();
-    bool good = ask_normal_form(file, form, &length).number == CGX_OK && length == file.size && same_bytes(form, file);
-    drop(form);
-    return good;
-}
-
 static void seconds(const char *name, uint64_t record, bool modified) {
     blob file = hex(SMALL), out = copy_of("untouched", 9);
     uint8_t *second = file.bytes + record + (record == 4 ? 26 : 10) + (modified ? 8 : 0);
     uint64_t length = unused_uint64_t();
     bool taken = true, refused = true;
+    cgx_date shown;
     size_t records;
     unsigned s;
     for (s = 0; s <= 60; s++) {
         *second = (uint8_t)s;
         taken = taken && ask_check(file).number == CGX_OK && walked(file, &records).number == CGX_DONE && records == 5
-            && gives_second(file, record, modified, (uint8_t)s) && is_normal(file);
+            && date_in(file, record, modified, &shown) && shown.second == s && is_normal(file);
     }
     for (; s <= 255; s++) {
         *second = (uint8_t)s;

@@ -369,24 +369,26 @@ static void broken_lists(void) {
     }
 }
 
-/* ---- every second of each date: 0 to 60 are taken and read back, 61 to 255 are 9 */
+/* ---- every second of each date: 0 to 60 are taken, read back and normal; 61 to 255 are 9 */
 
 /* LIBRARY, STRUCT and ENDLIB, where LIBRARY or STRUCT has a second of its own: the answer to that call, and whether the
-   rest was taken and the file is accepted with that second in its place. */
+   rest was taken and the file is accepted, its own normal form, and gives that date back. */
 static told stamped(bool in_struct, bool modified, uint8_t second, bool *whole) {
     call library = {GOOD_LIBRARY, GOOD_SCALES, TEXT_OF("m")}, cell = A_STRUCT_ON(DAY), endlib = {.which = AN_ENDLIB};
     call *c = in_struct ? &cell : &library;
-    const size_t at = in_struct ? 42 + 10 : 4 + 26;
+    cgx_date *date = modified ? &c->modified : &c->created, shown;
     blob buf = {lend(68), 68};
     cgx_writer writer;
     told t;
-    (modified ? &c->modified : &c->created)->second = second;
+    date->second = second;
+    date->unused = 0;
     cgx_write_start(buf.bytes, buf.size, &writer);
     if (in_struct) make_call(buf, &writer, &library);
     t = make_call(buf, &writer, c);
     if (!in_struct) make_call(buf, &writer, &cell);
     *whole = make_call(buf, &writer, &endlib).number == CGX_OK && writer.place.at == buf.size
-        && ask_check(buf).number == CGX_OK && buf.bytes[at + (modified ? 8 : 0)] == second;
+        && ask_check(buf).number == CGX_OK && is_normal(buf)
+        && date_in(buf, in_struct ? 42 : 4, modified, &shown) && SAME(&shown, date);
     drop(buf);
     return t;
 }
@@ -464,11 +466,10 @@ static uint32_t kind_of(which_call which) {
 
 static void read_back(void) {
     static const call card = {.which = A_TEST_CARD, .sides = {0, 0, 1, 1}};
-    blob normal = hex(every_kind_normal), buf = {lend(500), 500}, file, again;
+    blob normal = hex(every_kind_normal), buf = {lend(500), 500}, file;
     cgx_writer writer;
     cgx_place walked;
     cgx_view view;
-    uint64_t length = 0;
     size_t i;
     memset(&walked, FILL, sizeof walked);
     memset(&view, FILL, sizeof view);
@@ -484,10 +485,7 @@ static void read_back(void) {
     file = copy_of(buf.bytes, (size_t)writer.place.at);
     expect(same_bytes(file, normal), "a drawing", "is the bytes that are stored here");
     expect(ask_check(file).number == CGX_OK, "a drawing", "is accepted");
-    again.size = file.size;
-    again.bytes = lend(again.size);
-    expect(ask_normal_form(file, again, &length).number == CGX_OK && length == file.size && same_bytes(again, file),
-        "a drawing", "is its own normal form");
+    expect(is_normal(file), "a drawing", "is its own normal form");
     ask_start(file, &walked);
     for (i = 0; i < CALLS; i++) {
         expect(ask_step(file, &walked, &view).number == CGX_OK && view.kind == kind_of(drawing[i].which), "a drawing",
@@ -495,7 +493,6 @@ static void read_back(void) {
     }
     expect(SAME(&walked, &writer.place), "a drawing", "walk and writer end at the same place");
     expect(ask_step(file, &walked, &view).number == CGX_DONE, "a drawing", "is done");
-    drop(again);
     drop(file);
     drop(buf);
     drop(normal);
