@@ -22,7 +22,7 @@ MODULE := target/staticlib/cgx_c.bc
 TARGETS := aarch64 armv7 thumb riscv32 wasm32
 SOURCES := crates.txt $(shell find crates -name '*.rt' -o -name '*.antt')
 EXAMPLES := build/boxes build/labels build/samples
-TESTS := build/test build/test-sanitized build/labels-sanitized build/vectors build/freestanding build/stack
+TESTS := build/test build/test-sanitized build/labels-sanitized build/vectors build/makers build/freestanding build/stack
 SUITE := $(wildcard tests/c/*.c)
 SUITE_HEADERS := $(wildcard tests/c/*.h) include/cgx.h
 
@@ -63,6 +63,9 @@ build/test-sanitized: $(SUITE) $(SUITE_HEADERS) build/libcgx.a
 
 build/vectors: tests/c/programs/vectors.c include/cgx.h build/libcgx.a
 	$(CC) $(STRICT) $(SANITIZE) $(CPPFLAGS) -Iinclude $< build/libcgx.a -o $@
+
+build/makers: tests/c/programs/makers.c include/cgx.h build/libcgx.a
+	$(CC) $(STRICT) $(CFLAGS) $(CPPFLAGS) -Iinclude $< build/libcgx.a $(LDFLAGS) -o $@
 
 # No C library and no start-up code: the archive is all that is linked.
 build/freestanding: tests/c/programs/freestanding.c include/cgx.h build/libcgx.a

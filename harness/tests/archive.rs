@@ -28,7 +28,7 @@ fn archive_answers_as_the_reference_does() {
 /// The version that `cgx.h` has.
 #[test]
 fn archive_has_its_version() {
-    assert_eq!(cgx_harness::archive::version(), 2 << 16);
+    assert_eq!(cgx_harness::archive::version(), 3 << 16);
 }
 
 /// A real or a double that has no equal leaves what was lent, and the rest goes

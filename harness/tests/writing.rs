@@ -274,7 +274,7 @@ fn frame_given_back(file: &[u8], layer: View, wire: View, sides: Sides) {
         top,
     } = sides;
     let wire_call = Call::Wire {
-        style: None,
+        style: Some(0),
         width: 2,
         points: vec![
             left, bottom, right, bottom, right, top, left, top, left, bottom,
@@ -378,7 +378,7 @@ fn given_back(file: &[u8], view: View, call: &Call) {
                 points: given,
             },
         ) => {
-            assert_eq!(view.flags, style.unwrap_or(0));
+            assert_eq!(view.flags, style.unwrap_or(2));
             assert_eq!(width, *given_width);
             assert_eq!(longs(file, points, 2), *given);
         }

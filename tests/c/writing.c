@@ -58,9 +58,9 @@ static const taken_call taken_calls[] = {
     {"POLY", IN_LAYER, {.which = A_POLY, ITEMS_OF(triangle)},
         "0024 06 00 00000000 00000000 0000000a 00000000 0000000a 00000014 00000000 00000000"},
     {"WIRE", IN_LAYER, {.which = A_WIRE, .number = 10, ITEMS_OF(line)},
-        "0018 07 00 0000000a ffffffff 80000000 7fffffff 00000001"},
+        "0018 07 02 0000000a ffffffff 80000000 7fffffff 00000001"},
     {"WIRE, one point, width below 0", IN_RUN, {.which = A_WIRE, .number = -2, .items = line, .count = 1},
-        "0010 07 00 fffffffe ffffffff 80000000"},
+        "0010 07 02 fffffffe ffffffff 80000000"},
     {"WIRE, flush", IN_LAYER, {.which = A_STYLED_WIRE, .flags = CGX_END_FLUSH, .items = line, .count = 1},
         "0010 07 00 00000000 ffffffff 80000000"},
     {"WIRE, rounded", IN_LAYER, {.which = A_STYLED_WIRE, .flags = CGX_END_ROUNDED, .items = line, .count = 1},
@@ -310,11 +310,11 @@ static void longest_list(const char *name, call c, size_t most, size_t group, co
 
 static void longest_lists(void) {
     call box = {.which = A_BOX}, poly = {.which = A_POLY}, wire = {.which = A_WIRE, .number = 3},
-         styled = {.which = A_STYLED_WIRE, .flags = 2, .number = 3};
+         styled = {.which = A_STYLED_WIRE, .flags = 1, .number = 3};
     longest_list("4,095 and 4,096 boxes", box, CGX_MAX_BOXES, 4, "fff4 05 00", CGX_REFUSED_NUMBER);
     longest_list("8,191 and 8,192 points of a POLY", poly, CGX_MAX_POLY_POINTS, 2, "fffc 06 00", CGX_REFUSED_NOT_CLOSED);
-    longest_list("8,190 and 8,191 points of a WIRE", wire, CGX_MAX_WIRE_POINTS, 2, "fff8 07 00 00000003", 0);
-    longest_list("8,190 and 8,191 points of a styled WIRE", styled, CGX_MAX_WIRE_POINTS, 2, "fff8 07 02 00000003", 0);
+    longest_list("8,190 and 8,191 points of a WIRE", wire, CGX_MAX_WIRE_POINTS, 2, "fff8 07 02 00000003", 0);
+    longest_list("8,190 and 8,191 points of a styled WIRE", styled, CGX_MAX_WIRE_POINTS, 2, "fff8 07 01 00000003", 0);
 }
 
 /* ---- a list that ends inside a box or a point: only the archive's own functions can be given one */
@@ -406,6 +406,64 @@ static void seconds(const char *name, bool in_struct, bool modified) {
     expect(refused, name, "seconds 61 to 255");
 }
 
+/* ---- a wire without an end style: the one that states CGX_END_EXTENDED */
+
+typedef struct {
+    told told;
+    cgx_writer writer;
+    blob buf;
+} outcome;
+
+static outcome of_wire(const call *c, where at, size_t room) {
+    outcome o = {.writer = writer_in(at), .buf = {lend(room), room}};
+    o.told = make_call(o.buf, &o.writer, c);
+    return o;
+}
+
+static bool same_answer(const outcome *a, const outcome *b) {
+    return a->told.number == b->told.number && a->told.at == b->told.at && SAME(&a->writer, &b->writer);
+}
+
+/* So many points, where a WIRE is taken or is not, with room for all of it but one byte, for all of it, and for more. Against
+   flush ends, which it had before Req 08, the answer is the same, and one byte is another where it is taken. */
+static void unstated(where at, size_t count, bool *extended, bool *one_byte) {
+    static cgx_point points[CGX_MAX_WIRE_POINTS + 1];
+    const call none = {.which = A_WIRE, .number = 7, .items = points, .count = count};
+    call stated = none;
+    const size_t start = (size_t)writer_in(at).place.at, end = start + 8 + 8 * count;
+    size_t room;
+    stated.which = A_STYLED_WIRE;
+    for (room = end - 1; room <= end + 1; room++) {
+        outcome o = of_wire(&none, at, room), other;
+        stated.flags = CGX_END_EXTENDED;
+        other = of_wire(&stated, at, room);
+        *extended = *extended && same_answer(&o, &other) && same_bytes(o.buf, other.buf);
+        drop(other.buf);
+        stated.flags = CGX_END_FLUSH;
+        other = of_wire(&stated, at, room);
+        *one_byte = *one_byte && same_answer(&o, &other);
+        if (o.told.number == CGX_OK) {
+            *one_byte = *one_byte && other.buf.bytes[start + 3] == 0 && o.buf.bytes[start + 3] == 2;
+            other.buf.bytes[start + 3] = 2;
+        }
+        *one_byte = *one_byte && same_bytes(o.buf, other.buf);
+        drop(other.buf);
+        drop(o.buf);
+    }
+}
+
+static void wire_ends(void) {
+    static const size_t counts[] = {0, 1, 2, CGX_MAX_WIRE_POINTS, CGX_MAX_WIRE_POINTS + 1};
+    int at;
+    size_t i;
+    for (at = AT_START; at <= ENDED; at++) {
+        bool extended = true, one_byte = true;
+        for (i = 0; i < sizeof counts / sizeof counts[0]; i++) unstated((where)at, counts[i], &extended, &one_byte);
+        expect(extended, "WIRE without an end style", "is the one with extended ends");
+        expect(one_byte, "WIRE without an end style", "differs in its flags from one with flush ends");
+    }
+}
+
 /* ---- the start */
 
 static void starts(void) {
@@ -445,7 +503,7 @@ static const call drawing[] = {
     {.which = A_PROPERTY, .number = INT32_MIN},
     {.which = A_BOX, ITEMS_OF(two_boxes)},
     {.which = A_POLY, ITEMS_OF(triangle)},
-    {.which = A_STYLED_WIRE, .flags = 2, .number = 10, ITEMS_OF(line)},
+    {.which = A_WIRE, .number = 10, ITEMS_OF(line)},
     {.which = A_TEXT, .flags = 0xf5, .point = {-80, INT32_MIN}, .number = 7, TEXT_OF("ab\xce")},
     {.which = AN_SREF, .placement.point = {1, 2}, TEXT_OF("b")},
     {.which = AN_SREF, .flags = 15, .placement.point = {3, 4}, .placement.angle = {0x8000000000000000},
@@ -574,6 +632,7 @@ void test_writing(void) {
     seconds("LIBRARY, modified", false, true);
     seconds("STRUCT, created", true, false);
     seconds("STRUCT, modified", true, true);
+    wire_ends();
     read_back();
     handed_on();
 }

@@ -150,7 +150,7 @@ static uint32_t write_view(const cgx_view *v, uint64_t room, cgx_writer *w, uint
     case CGX_BOX: return cgx_write_box_longs(out, room, w, at, longs, n);
     case CGX_POLY: return cgx_write_poly_longs(out, room, w, at, longs, n);
     case CGX_WIRE:
-        if (flags == CGX_END_FLUSH) return cgx_write_wire_longs(out, room, w, at, f->wire.width, longs, n);
+        if (flags == CGX_END_EXTENDED) return cgx_write_wire_longs(out, room, w, at, f->wire.width, longs, n);
         return cgx_write_styled_wire_longs(out, room, w, at, flags, f->wire.width, longs, n);
     case CGX_TEXT:
         return cgx_write_text(out, room, w, at, flags, f->text.point.x, f->text.point.y, f->text.width,

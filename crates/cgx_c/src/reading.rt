@@ -44,9 +44,9 @@ ghost use Rattle.cgx_c_step.specs.Lent.{StepLent};
 // CGX_VERSION of include/cgx.h.
 #[no_mangle]
 pub extern "C" fn cgx_version() -> u32
-    ensures { λ r. ⌜ r ≡ 0x20000 ⌝ }
+    ensures { λ r. ⌜ r ≡ 0x30000 ⌝ }
 {
-    0x2_0000
+    0x3_0000
 }
 
 #[no_mangle]

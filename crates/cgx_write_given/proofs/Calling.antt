@@ -54,5 +54,4 @@ calls-promises =
       endlib = record { flags = omega arith; items = tt };
       ignored = λ fl p a a' m m' g g' t ha hm hg.
           rw (ignored eight (angle fl) ha, ignored eight (magnif fl) hm, ignored (λ (x : Grid). long (x .cols)) (array fl) hg, ignored (λ (x : Grid). long (x .rows)) (array fl) hg, ignored (λ (x : Grid). point (x .across)) (array fl) hg, ignored (λ (x : Grid). point (x .up)) (array fl) hg);
-      unstated = λ w zs. refl;
     }

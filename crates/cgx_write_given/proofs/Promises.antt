@@ -6,6 +6,7 @@ use Rattle.cgx_write_given.proofs.Rooms.{round-trip, no-room}
 use Rattle.cgx_write_given.proofs.Stores.{untouched, numbered, goes-on}
 use Rattle.cgx_write_given.proofs.Calling.{calls-promises}
 use Rattle.cgx_write_given.proofs.Seconds.{given-seconds}
+use Rattle.cgx_write_given.proofs.Ends.{wire-ends}
 use Rattle.cgx_write_given.proofs.Specimens.{specimens}
 
 pub writer-promises : WriterPromises
@@ -16,5 +17,6 @@ writer-promises =
       rules = record { same-rules = same-rules; numbered = numbered; goes-on = goes-on };
       given = calls-promises;
       seconds = given-seconds;
+      ends = wire-ends;
       specimens = specimens;
     }

@@ -4,18 +4,19 @@ use mathlib.Core.Logic.{_⊎_}
 use mathlib.Core.Bool.{true, cond}
 use mathlib.Core.List.{List, [], _∷_, _++_, map}
 use mathlib.Core.Option.{none, some}
-use Prim.Native.Nat.{ℕ, _≤_, _<_}
+use Prim.Native.Nat.{ℕ, _+_, _≤_, _<_}
 use lib.Dec.{leb}
-use lib.IntN.{ℤ}
+use lib.IntN.{ℤ, pos, negsuc}
 use lib.ListN.{length, take, getD}
 use Rattle.cgx_spec.specs.declared.Context.{Context}
 use Rattle.cgx_spec.specs.Numbers.{Bytes}
 use Rattle.cgx_spec.specs.Fields.{inOrder}
 use Rattle.cgx_spec.specs.Kinds.{angle, magnif, array}
-use Rattle.cgx_spec.specs.Records.{size, broken, faultOf, viewMeaning}
+use Rattle.cgx_spec.specs.Records.{size, bytesOf, broken, faultOf, viewMeaning}
 use Rattle.cgx_spec.specs.Files.{header, Accepted, sequence, meanings, normalForm}
 use Rattle.cgx_spec.specs.Walking.{firstPlace, done, stepOf, reads}
 use Rattle.cgx_spec.specs.Specimens.{drawingNormal, stamped}
+use Rattle.buffers.specs.Put.{put}
 use Rattle.cgx_format_kinds.specs.declared.Date.{Date}
 use Rattle.cgx_format_kinds.specs.declared.LayerNo.{LayerNo}
 use Rattle.cgx_format_kinds.specs.declared.DataType.{DataType}
@@ -113,8 +114,6 @@ pub record CallsPromises : Type 0 where
   pub ignored : (fl : ℕ) (at : Point) (turn turn' scale scale' : List ℕ) (grid grid' : Grid) (name : List ℕ)
       → (angle fl ≡ true → turn ≡ turn') → (magnif fl ≡ true → scale ≡ scale') → (array fl ≡ true → grid ≡ grid')
       → givenSref fl at turn scale grid name ≡ givenSref fl at turn' scale' grid' name
-  -- "A wire may be written without an end style; flush (0) is then used."
-  pub unstated : (width : ℤ) (points : List ℤ) → givenWire Unstated width points ≡ givenWire (Stated 0) width points
 
 -- ---- Req 02: "Seconds 0 to 60 are accepted in all dates, by reader and writer; 61 is refused with 9."
 
@@ -131,6 +130,24 @@ pub record GivenSeconds : Type 0 where
   pub library-modified : (version : ℕ) (munit uunit : List ℕ) (created : Date) (name : List ℕ) → AnySecond (λ d. givenLibrary version munit uunit created d name)
   pub struct-created : (modified : Date) (name : List ℕ) → AnySecond (λ d. givenStruct d modified name)
   pub struct-modified : (created : Date) (name : List ℕ) → AnySecond (λ d. givenStruct created d name)
+
+-- ---- Req 08: "a wire written without an end style gets style 2"
+
+pub record WireEnds : Type 0 where
+  -- It is the call that states 2, in all that it answers and stores.
+  pub unstated : (width : ℤ) (points : List ℤ) → givenWire Unstated width points ≡ givenWire (Stated 2) width points
+  -- A style that is stated is the one that is written and meant.
+  pub stated : (style : ℕ) (width : ℤ) (points : List ℤ) → let g = givenWire (Stated style) width points in (written g .flags ≡ style) × (meant g .flags ≡ style)
+  -- What else changes by it: no answer, since styles 0 to 2 are answered alike;
+  pub answer : (buf : List ℕ) (w : Writer) (style other : ℕ) (width : ℤ) (points : List ℤ) → style ≤ 2 → other ≤ 2
+      → callIn buf w (givenWire (Stated style) width points) .answer ≡ callIn buf w (givenWire (Stated other) width points) .answer
+  -- and one byte of the buffer, the record's flags.
+  pub buffer : (buf : List ℕ) (w : Writer) (style other : ℕ) (width : ℤ) (points : List ℤ)
+      → let o = callIn buf w (givenWire (Stated style) width points) in let o' = callIn buf w (givenWire (Stated other) width points) in
+      o .answer .number ≡ 0 → o' .answer .number ≡ 0 → o .buffer ≡ put (o' .buffer) (offsetOf w + 3) (style ∷ [])
+  -- "size, type, flags; width; x, y": a wire of width 10 through one point.
+  pub specimen : bytesOf (written (givenWire Unstated (pos 10) (pos 1 ∷ negsuc 0 ∷ [])))
+      ≡ 0 ∷ 16 ∷ 7 ∷ 2 ∷ 0 ∷ 0 ∷ 0 ∷ 10 ∷ 0 ∷ 0 ∷ 0 ∷ 1 ∷ 255 ∷ 255 ∷ 255 ∷ 255 ∷ []
 
 -- ---- specimens
 
@@ -150,4 +167,5 @@ pub record WriterPromises : Type 0 where
   pub rules : RulesPromises
   pub given : CallsPromises
   pub seconds : GivenSeconds
+  pub ends : WireEnds
   pub specimens : Specimens

@@ -154,9 +154,9 @@ written g = record { type = typeFor (g .kind); flags = flagsOf (g .kind) (g .fla
 
 -- ---- the calls of each kind: what they give
 
--- "A wire may be written without an end style; flush (0) is then used."
+-- "A wire may be written without an end style", and Req 08: it "gets style 2", where 01 has flush (0).
 abbrev pub defaultStyle : ℕ
-defaultStyle = 0
+defaultStyle = 2
 
 abbrev pub styleOf : EndStyle → ℕ
 styleOf Unstated = defaultStyle

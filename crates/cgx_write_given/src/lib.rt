@@ -34,8 +34,8 @@ pub enum EndStyle {
 }
 
 impl EndStyle {
-    // Flush.
-    pub const DEFAULT: u8 = 0;
+    // Extended by half the wire's width.
+    pub const DEFAULT: u8 = 2;
 
     // The flags that a wire is written with.
     pub fn flags(self) -> u8

@@ -12,7 +12,6 @@ use mir.Val.{SFits}
 use Rattle.cgx_spec.specs.Numbers.{Bytes}
 use Rattle.cgx_spec.specs.Records.{bytesOf}
 use Rattle.buffers.specs.Put.{put}
-use Rattle.cgx_write_given.specs.declared.EndStyle.the-variants.{Unstated}
 use Rattle.cgx_write_given.specs.declared.Writer.{Writer}
 use Rattle.cgx_write_given.specs.declared.Answer.{Answer}
 use Rattle.cgx_write_given.specs.Given.{Given, written}
@@ -21,7 +20,7 @@ use Rattle.cgx_write_given.specs.Writing.{offsetOf, writerAfter, Outcome, isTak
 use Rattle.cgx_write_given.proofs.Calls.{by-outcome}
 use Rattle.cgx_write_given.proofs.Calling.{calls-promises}
 use Rattle.cgx_write_given.proofs.Ranges.{long-in}
-use Rattle.cgx_write_makers.specs.Makers.{corners, cardCalls, frameCalls, inTurn, handedBack, allIn}
+use Rattle.cgx_write_makers.specs.Makers.{corners, cardStyle, cardCalls, frameCalls, inTurn, handedBack, allIn}
 use Rattle.cgx_write_makers.specs.Demand.{MakersDemand}
 
 -- ---- all
@@ -118,7 +117,7 @@ module _ (left bottom right top : ℤ) (h : Longs (left ∷ bottom ∷ right ∷
       let t = h .1 .1 .1 .0 in
       let cs : Longs (corners left bottom right top) = (l, (b, (r, (b, (r, (t, (l, (t, (l, (b, tt)))))))))) in (
         calls-promises .layer (record { 0 = pos 1 }) (record { 0 = pos 0 }) (omega arith) (omega arith),
-        (calls-promises .wire Unstated (pos 2) (corners left bottom right top) (omega arith) (omega arith) cs, tt),
+        (calls-promises .wire cardStyle (pos 2) (corners left bottom right top) (omega arith) (omega arith) cs, tt),
       )
 
   frame : (label : List ℕ) → Bytes label → AllWell (frameCalls left bottom right top label)

@@ -11,7 +11,6 @@ use mir.ValLaws.{toZ-ofZ}
 use Rattle.cgx_spec.specs.Records.{size, bytesOf}
 use Rattle.buffers.specs.Put.{put}
 use Rattle.cgx_format_kinds.specs.declared.Point.{Point}
-use Rattle.cgx_write_given.specs.declared.EndStyle.the-variants.{Unstated}
 use Rattle.cgx_write_given.specs.declared.Writer.{Writer}
 use Rattle.cgx_write_given.specs.declared.Answer.{Answer}
 use Rattle.cgx_write_given.specs.Given.{Given, written}
@@ -19,7 +18,7 @@ use Rattle.cgx_write_given.specs.Writing.{offsetOf, writerAfter}
 use Rattle.cgx_write_given.proofs.Sizes.{layer-size, wire-size, label-size}
 use Rattle.cgx_write_given.proofs.Unforged.{after-is}
 use Rattle.cgx_write_plans.proofs.Order.{call-fits}
-use Rattle.cgx_write_makers.specs.Makers.{corners, cardLayer, cardWire, outline, caption, frameCalls}
+use Rattle.cgx_write_makers.specs.Makers.{corners, cardLayer, cardStyle, cardWire, outline, caption, frameCalls}
 use Rattle.cgx_write_makers.specs.Planned.{allPlanned, allStored}
 use Rattle.cgx_write_makers.proofs.Turns.{plan-good}
 
@@ -40,7 +39,7 @@ module _ (zs : List ℤ) (w : Writer) where
   wire-at = offset-after w cardLayer 8 layer-8
 
   pub caption-at : offsetOf third ≡ offsetOf w + (16 + 4 * length zs)
-  caption-at = let a = wire-at in let b = offset-after second (cardWire zs) (8 + 4 * length zs) (wire-size Unstated (pos 2) zs) in omega arith
+  caption-at = let a = wire-at in let b = offset-after second (cardWire zs) (8 + 4 * length zs) (wire-size cardStyle (pos 2) zs) in omega arith
 
   -- the stores, as the code has them
   pub outline-stored : (buf : List ℕ) → put (put buf (offsetOf w) (bytesOf (written cardLayer))) (offsetOf w + 8) (bytesOf (written (cardWire zs))) ≡ allStored buf w (outline zs)
@@ -57,7 +56,7 @@ module _ (zs : List ℤ) (w : Writer) where
   pub outline-fits : (room : ℕ) (gs : List Given) → allPlanned room w (cardLayer ∷ cardWire zs ∷ gs) .number ≡ 0 → (offsetOf w + (16 + 4 * length zs) ≤ room) × (8 + 4 * length zs ≤ 65534)
   outline-fits room gs z =
       let g = plan-good room second (cardWire zs) gs (plan-good room w cardLayer (cardWire zs ∷ gs) z .1) in
-      let h = call-fits room second (cardWire zs) _ (8 + 4 * length zs) (sym (g .0)) refl (wire-size Unstated (pos 2) zs) in
+      let h = call-fits room second (cardWire zs) _ (8 + 4 * length zs) (sym (g .0)) refl (wire-size cardStyle (pos 2) zs) in
       (omega (arith, h .room, wire-at), h .small)
 
   pub frame-fits : (room : ℕ) (p : Point) (t : List ℕ) → allPlanned room w (outline zs ++ (caption p t ∷ [])) .number ≡ 0 → (offsetOf w + (16 + 4 * length zs) + (18 + length t / 2 * 2) ≤ room) × (18 + length t / 2 * 2 ≤ 65534)

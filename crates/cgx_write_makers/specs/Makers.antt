@@ -5,7 +5,8 @@ use mathlib.Core.Option.{none}
 use Prim.Native.Nat.{ℕ}
 use lib.IntN.{ℤ, pos}
 use Rattle.cgx_format_kinds.specs.declared.Point.{Point}
-use Rattle.cgx_write_given.specs.declared.EndStyle.the-variants.{Unstated}
+use Rattle.cgx_write_given.specs.declared.EndStyle.{EndStyle}
+use Rattle.cgx_write_given.specs.declared.EndStyle.the-variants.{Stated}
 use Rattle.cgx_write_given.specs.declared.Writer.{Writer}
 use Rattle.cgx_write_given.specs.declared.Answer.{Answer}
 use Rattle.cgx_write_given.specs.Given.{Given, givenLayer, givenWire, givenText}
@@ -21,8 +22,12 @@ corners left bottom right top = left ∷ bottom ∷ right ∷ bottom ∷ right �
 abbrev pub cardLayer : Given
 cardLayer = givenLayer (record { 0 = pos 1 }) (record { 0 = pos 0 }) none
 
+-- Req 08: the makers "relied on flush ends, and shall say 0 themselves".
+abbrev pub cardStyle : EndStyle
+cardStyle = Stated 0
+
 abbrev pub cardWire : List ℤ → Given
-cardWire points = givenWire Unstated (pos 2) points
+cardWire points = givenWire cardStyle (pos 2) points
 
 abbrev pub outline : List ℤ → List Given
 outline points = cardLayer ∷ cardWire points ∷ []

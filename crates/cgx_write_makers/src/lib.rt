@@ -26,7 +26,7 @@ use cgx_write_stores::store_layer;
 use cgx_write_stores::store_text;
 use cgx_write_stores::store_wire;
 
-// The test card: LAYER 1, and a wire around the four sides.
+// The test card: LAYER 1, and a wire with flush ends around the four sides.
 pub fn test_card(
     buf: &mut [u8],
     writer: Writer,
@@ -78,6 +78,9 @@ pub fn caption_frame(
 // The width of the wire and of the caption.
 const WIDTH: i32 = 2;
 
+// The wire's ends are flush, whatever a wire without a style gets.
+const STYLE: u8 = 0;
+
 // A refusal hands back the writer that the maker was given.
 fn handed_back(w: Writer, planned: Answer) -> Answer
     ensures { λ r. ⌜ r ≡ handedBack w planned ⌝ }
@@ -100,7 +103,7 @@ fn plan_outline(room: usize, w: Writer, points: &[i32]) -> Answer
     if layer.number != 0 {
         return layer;
     }
-    plan_wire(room, layer.writer, EndStyle::Unstated, WIDTH, points)
+    plan_wire(room, layer.writer, EndStyle::Stated(STYLE), WIDTH, points)
 }
 
 fn plan_frame(room: usize, w: Writer, points: &[i32], at: Point, label: &[u8]) -> Answer
@@ -140,6 +143,6 @@ fn store_outline(buf: &mut [u8], at: usize, points: &[i32]) -> usize
 {
     let next = at + Layer::MIN_SIZE;
     store_layer(buf, at, LayerNo(1), DataType(0));
-    store_wire(buf, next, EndStyle::Unstated, WIDTH, points);
+    store_wire(buf, next, EndStyle::Stated(STYLE), WIDTH, points);
     next + wire_size(points)
 }

@@ -102,7 +102,7 @@ impl Call {
                 points,
             } => one(
                 WIRE,
-                style.unwrap_or(0),
+                style.unwrap_or(2),
                 Body::new().longs(&[*width]).longs(points),
             ),
             Call::Text {

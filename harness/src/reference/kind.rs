@@ -124,6 +124,8 @@ pub mod limits {
     pub const MOST_WIRE_PAIRS: usize = 8_190;
 
     pub const HIGHEST_WIRE_STYLE: u8 = 2;
+    /// Square ends, for a wire written without an end style.
+    pub const DEFAULT_WIRE_STYLE: u8 = 2;
     pub const HIGHEST_SREF_FLAGS: u8 = 15;
     pub const SREF_ANGLE: u8 = 1;
     pub const SREF_MAGNIF: u8 = 2;

@@ -113,7 +113,7 @@ pub fn poly(buffer: &mut [u8], place: Place, points: &[i32]) -> Answer {
     append(buffer, place, &[Draft::Poly { points }])
 }
 
-/// A wire without an end style has flush ends.
+/// A wire without an end style has square ends.
 pub fn wire(
     buffer: &mut [u8],
     place: Place,
@@ -122,7 +122,7 @@ pub fn wire(
     points: &[i32],
 ) -> Answer {
     let draft = Draft::Wire {
-        style,
+        style: style.unwrap_or(limits::DEFAULT_WIRE_STYLE),
         width,
         points,
     };
@@ -155,7 +155,7 @@ pub fn endlib(buffer: &mut [u8], place: Place) -> Answer {
     append(buffer, place, &[Draft::Endlib])
 }
 
-/// Appends an unnamed LAYER 1 and a wire along the four sides.
+/// Appends an unnamed LAYER 1 and a wire with flush ends along the four sides.
 pub fn test_card(buffer: &mut [u8], place: Place, sides: Sides) -> Answer {
     let outline = outline(sides);
     append(buffer, place, &frame(&outline))
@@ -176,6 +176,8 @@ pub fn caption_frame(buffer: &mut [u8], place: Place, sides: Sides, label: &[u8]
 }
 
 const FRAME_WIDTH: i32 = 2;
+/// Flush ends. The makers say so themselves.
+const FRAME_STYLE: u8 = 0;
 
 /// Once around: left-bottom, right-bottom, right-top, left-top and back.
 #[rustfmt::skip]
@@ -197,7 +199,7 @@ fn frame(outline: &[i32; 10]) -> [Draft<'_>; 2] {
             name: None,
         },
         Draft::Wire {
-            style: None,
+            style: FRAME_STYLE,
             width: FRAME_WIDTH,
             points: outline,
         },
@@ -275,7 +277,7 @@ enum Draft<'a> {
         points: &'a [i32],
     },
     Wire {
-        style: Option<u8>,
+        style: u8,
         width: i32,
         points: &'a [i32],
     },
@@ -314,7 +316,7 @@ impl Draft<'_> {
     fn flags(&self) -> u8 {
         let given = match self {
             Draft::Library { version, .. } => *version,
-            Draft::Wire { style, .. } => style.unwrap_or(0),
+            Draft::Wire { style, .. } => *style,
             Draft::Text { flags, .. } => *flags,
             Draft::Sref { placement, .. } => placement.flags,
             _ => 0,
@@ -356,8 +358,7 @@ impl Draft<'_> {
                 require(pairs.first() == pairs.last(), number::OPEN_POLY)
             }
             Draft::Wire { style, points, .. } => {
-                let known = style.is_none_or(|style| style <= limits::HIGHEST_WIRE_STYLE);
-                require(known, number::FLAGS)?;
+                require(style <= limits::HIGHEST_WIRE_STYLE, number::FLAGS)?;
                 check_pairs(points, limits::FEWEST_WIRE_PAIRS).map(|_| ())
             }
             Draft::Text { label, .. } => check_text(label),
