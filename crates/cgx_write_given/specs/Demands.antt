@@ -145,7 +145,7 @@ pub record WireEnds : Type 0 where
   pub buffer : (buf : List ℕ) (w : Writer) (style other : ℕ) (width : ℤ) (points : List ℤ)
       → let o = callIn buf w (givenWire (Stated style) width points) in let o' = callIn buf w (givenWire (Stated other) width points) in
       o .answer .number ≡ 0 → o' .answer .number ≡ 0 → o .buffer ≡ put (o' .buffer) (offsetOf w + 3) (style ∷ [])
-  -- "size, type, flags; width; x, y": a wire of width 10 through one point.
+  -- A wire of width 10 through one point: size, type, flags, width, x, y.
   pub specimen : bytesOf (written (givenWire Unstated (pos 10) (pos 1 ∷ negsuc 0 ∷ [])))
       ≡ 0 ∷ 16 ∷ 7 ∷ 2 ∷ 0 ∷ 0 ∷ 0 ∷ 10 ∷ 0 ∷ 0 ∷ 0 ∷ 1 ∷ 255 ∷ 255 ∷ 255 ∷ 255 ∷ []
 

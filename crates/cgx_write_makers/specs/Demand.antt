@@ -1,9 +1,11 @@
 -- What is proved of the makers: what they append is what the calls append one after another, so that the writer's round trip speaks of it. Statements only.
 use mathlib.Core.Path.{_≡_}
 use mathlib.Core.List.{List, [], _∷_, _++_, map}
-use Prim.Native.Nat.{ℕ}
-use lib.IntN.{ℤ}
+use Prim.Native.Nat.{ℕ, _+_, _*_, _/_, _%_}
+use lib.IntN.{ℤ, pos}
+use lib.ListN.{length}
 use Rattle.cgx_spec.specs.Numbers.{Bytes}
+use Rattle.cgx_spec.specs.Strings.{padded}
 use Rattle.cgx_spec.specs.Fields.{join}
 use Rattle.cgx_spec.specs.Records.{bytesOf}
 use Rattle.buffers.specs.Put.{longsBytes}
@@ -36,6 +38,9 @@ pub record MakersUnchanged : Type 0 where
   -- So from every buffer and writer the answer, refusals too, and every byte of the buffer are what they were.
   pub card-in : (buf : List ℕ) (w : Writer) (left bottom right top : ℤ) → allIn buf w (cardCalls left bottom right top) ≡ allIn buf w (formerCard left bottom right top)
   pub frame-in : (buf : List ℕ) (w : Writer) (left bottom right top : ℤ) (label : List ℕ) → allIn buf w (frameCalls left bottom right top label) ≡ allIn buf w (formerFrame left bottom right top label)
-  -- The bytes of a card: LAYER, then WIRE with flags 0 and width 2.
+  -- The bytes themselves, of a card: LAYER, then WIRE with flags 0 and width 2.
   pub card-bytes : (left bottom right top : ℤ) → join bytesOf (map written (cardCalls left bottom right top))
       ≡ 0 ∷ 8 ∷ 4 ∷ 0 ∷ 0 ∷ 1 ∷ 0 ∷ 0 ∷ (0 ∷ 48 ∷ 7 ∷ 0 ∷ 0 ∷ 0 ∷ 0 ∷ 2 ∷ longsBytes (corners left bottom right top))
+  -- Of a frame: these, then TEXT with flags 0.
+  pub frame-bytes : (left bottom right top : ℤ) (label : List ℕ) → let size = 18 + length label / 2 * 2 in join bytesOf (map written (frameCalls left bottom right top label))
+      ≡ join bytesOf (map written (cardCalls left bottom right top)) ++ (size / 256 ∷ size % 256 ∷ 8 ∷ 0 ∷ (longsBytes (left ∷ bottom ∷ pos 2 ∷ []) ++ padded label))
