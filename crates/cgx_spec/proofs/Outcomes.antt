@@ -99,7 +99,14 @@ module _ (bs : List RecordBefore) (a s fl : ℕ) (more : List ℕ) where
     of-known : (k : Kind) → Result (type_byte k)
     unfolding rules pieces_of
     of-known k =
-        subst (λ (o : Option Kind). Outcome P rule_checks (broken (rules (allowed (look_back bs) (kind_of t)) o r))) (sym (agreement.types k)) go
+        subst (λ (o : Option Kind). Outcome P rule_checks (broken (rules (allowed (look_back bs) (kind_of t)) o r))) (sym (agreement.types k))
+        (chain P in_order (allowed (look_back bs) (kind_of t)) (flags_good ∷ body_length ∷ dates_good ∷ numbers_good ∷ strings_good ∷ poly_closed ∷ []) _ (order-iff bs t) (λ p₆.
+            chain P flags_good (good_flags k fl) (body_length ∷ dates_good ∷ numbers_good ∷ strings_good ∷ poly_closed ∷ []) _ (Iff.trans (flags-iff k fl w.flags-byte) (of-kind k (λ l. fl ≤ highest_flags l))) (λ p₇.
+            chain P body_length (lengths_fit ps) (dates_good ∷ numbers_good ∷ strings_good ∷ poly_closed ∷ []) _ (Iff.trans (length-iff k r n w.long w.even w.small) (of-kind k (λ l. good_size l fl n ≡ true))) (λ p₈.
+            chain P dates_good (keeps 9 ps) (numbers_good ∷ strings_good ∷ poly_closed ∷ []) _ (asked k DatesGood (dates-iff a s t fl body k)) (λ p₉.
+            chain P numbers_good (keeps 10 ps) (strings_good ∷ poly_closed ∷ []) _ (asked k NumbersGood (numbers-iff a s t fl body k w.long (p₈ k refl))) (λ p₁₀.
+            chain P strings_good (keeps 11 ps) (poly_closed ∷ []) _ (asked k StringsGood (strings-iff a s t fl body k w.long)) (λ p₁₁.
+            chain P poly_closed (keeps 12 ps) [] [] (asked k PolygonsGood (polygons-iff a s t fl body k w.long (p₈ k refl))) (λ p₁₂. no_more P))))))))
       where
         t : ℕ
         t = type_byte k
@@ -116,26 +123,15 @@ module _ (bs : List RecordBefore) (a s fl : ℕ) (more : List ℕ) where
         n : ℕ
         n = a * 256 + s
 
-        go : Outcome P rule_checks (broken (rules (allowed (look_back bs) (kind_of t)) (some k) r))
-        go = chain P in_order (allowed (look_back bs) (kind_of t)) _ _ (order-iff bs t) (λ p₆.
-            chain P flags_good (good_flags k fl) _ _ (Iff.trans (flags-iff k fl w.flags-byte) (of-kind k (λ l. fl ≤ highest_flags l))) (λ p₇.
-            chain P body_length (lengths_fit ps) _ _ (Iff.trans (length-iff k r n w.long w.even w.small) (of-kind k (λ l. good_size l fl n ≡ true))) (λ p₈.
-            chain P dates_good (keeps 9 ps) _ _ (asked k DatesGood (dates-iff a s t fl body k)) (λ p₉.
-            chain P numbers_good (keeps 10 ps) _ _ (asked k NumbersGood (numbers-iff a s t fl body k w.long (p₈ k refl))) (λ p₁₀.
-            chain P strings_good (keeps 11 ps) _ _ (asked k StringsGood (strings-iff a s t fl body k w.long)) (λ p₁₁.
-            chain P poly_closed (keeps 12 ps) [] [] (asked k PolygonsGood (polygons-iff a s t fl body k w.long (p₈ k refl))) (λ p₁₂. no_more P)))))))
-
     of_none : (t : ℕ) → 11 ≤ t → Result t
     unfolding rules broken
     of_none t h =
-        subst (λ (o : Option Kind). Outcome P rule_checks (broken (rules (allowed (look_back bs) (kind_of t)) o (rec_from t)))) (sym (unknown-kind t h)) go
+        subst (λ (o : Option Kind). Outcome P rule_checks (broken (rules (allowed (look_back bs) (kind_of t)) o (rec_from t)))) (sym (unknown-kind t h))
+        (chain P in_order (allowed (look_back bs) (kind_of t)) (flags_good ∷ body_length ∷ dates_good ∷ numbers_good ∷ strings_good ∷ poly_closed ∷ []) [] (order-iff bs t)
+            (λ p. (of-unknown t _ h, (of-unknown t _ h, (of-unknown t _ h, (of-unknown t _ h, (of-unknown t _ h, (of-unknown t _ h, tt))))))))
       where
         P : Check → Type 0
         P = Passes bs (bytes t)
-
-        go : Outcome P rule_checks (broken (rules (allowed (look_back bs) (kind_of t)) none (rec_from t)))
-        go = chain P in_order (allowed (look_back bs) (kind_of t)) _ [] (order-iff bs t)
-            (λ p. (of-unknown t _ h, (of-unknown t _ h, (of-unknown t _ h, (of-unknown t _ h, (of-unknown t _ h, (of-unknown t _ h, tt)))))))
 
     pub rules-outcome : (t : ℕ) → Result t
     rules-outcome t = by-type Result of-known of_none t
