@@ -1,5 +1,7 @@
 // Numbers of several bytes, the high byte first: shorts and longs in two's complement, the unsigned record size,
 // and the eight bytes of a real as one word. No step for a short or a long is wider than 32 bits.
+#![tactic(auto)]
+
 ghost use Rattle.std.specs.Prelude.{◌≡◌, [], ◌∷◌, ◌+◌, ◌^◌, ◌≤◌, length, take, drop};
 ghost use Rattle.cgx_spec.specs.Numbers.{number, digits, twos, untwos, short_of, long_of, short_bytes, long_bytes};
 ghost use Rattle.cgx_spec.specs.Strings.{same};
