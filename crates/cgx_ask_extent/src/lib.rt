@@ -13,7 +13,7 @@ use cgx_read_sequence::{Next, next_known};
 use cgx_spec::{Kind, Offset, Verdict};
 use numbers::long_at;
 
-#[derive(Drop)]
+#[derive(Clone, Copy)]
 pub struct Sides {
     pub left: i32,
     pub bottom: i32,
@@ -22,21 +22,21 @@ pub struct Sides {
 }
 
 // The rectangle around some points; nothing where there are none.
-#[derive(Drop)]
+#[derive(Clone, Copy)]
 pub enum Rectangle {
     Nothing,
     Of(Sides),
 }
 
 // The answer: a refusal and the place that it names, or the extent.
-#[derive(Drop)]
+#[derive(Clone, Copy)]
 pub enum CellExtent {
     Refused { number: u8, at: Offset },
     Found(Rectangle),
 }
 
 // What a record is to an extent: it opens a cell, it has points from this byte of its body on, or neither.
-#[derive(Drop)]
+#[derive(Clone, Copy)]
 pub enum ExtentRole {
     Opens,
     Points(usize),
@@ -44,7 +44,7 @@ pub enum ExtentRole {
 }
 
 // Where the records of a cell begin, if there is such a cell.
-#[derive(Drop)]
+#[derive(Clone, Copy)]
 enum CellStart {
     Missing,
     From(usize),

@@ -11,7 +11,7 @@ use cgx_read_fields::layer_of;
 use cgx_spec::Kind;
 
 // What is shown: no layer's name, a part of the file, or the whole substitute.
-#[derive(Drop)]
+#[derive(Clone, Copy)]
 pub enum NameAnswer {
     NoLayer,
     OfFile { at: usize, len: usize },

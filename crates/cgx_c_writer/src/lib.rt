@@ -100,7 +100,7 @@ pub fn data_type(id: &[i16; 2]) -> DataType
 }
 
 // Where an SREF shows its cell.
-#[derive(Drop)]
+#[derive(Clone, Copy)]
 pub struct Placement {
     pub at: Point,
     pub angle: WordBytes,

@@ -8,7 +8,7 @@ ghost use Rattle.cgx_format_cursor.specs.Cursors.{run_in, context_in, place_in, 
 use cgx_spec::Kind;
 
 // What has been read before a record.
-#[derive(Drop)]
+#[derive(Clone, Copy)]
 pub struct State {
     // The offsets of the open cell's STRUCT and of the LAYER in force.
     pub cell: usize,
@@ -25,7 +25,7 @@ pub struct State {
 }
 
 // The offset of the next record, and what has been read before it.
-#[derive(Drop)]
+#[derive(Clone, Copy)]
 pub struct Cursor {
     pub at: usize,
     pub state: State,

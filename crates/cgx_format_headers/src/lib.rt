@@ -1,4 +1,6 @@
 // The first four bytes of a file, and a record's header: size, kind and flags, read once.
+#![tactic(auto)]
+
 ghost use Rattle.std.specs.Prelude.{◌≡◌, ◌+◌, ◌≤◌, ◌<◌, length};
 ghost use Rattle.std.proofs.Math.Option.{some};
 ghost use Rattle.cgx_spec.specs.Kinds.{kind_of};
@@ -9,13 +11,13 @@ use cgx_spec::Kind;
 use numbers::unsigned_at;
 
 // A record's type: one of the eleven kinds, or unknown.
-#[derive(Drop)]
+#[derive(Clone, Copy)]
 pub enum RecordType {
     Known(Kind),
     Unknown,
 }
 
-#[derive(Drop)]
+#[derive(Clone, Copy)]
 pub struct Header {
     pub size: usize,
     pub kind: RecordType,
@@ -23,7 +25,7 @@ pub struct Header {
 }
 
 // What the bytes at an offset say: refusal 3, 4 or 5, or the header of a record that lies in the file.
-#[derive(Drop)]
+#[derive(Clone, Copy)]
 pub enum Headed {
     Bad(u8),
     Good(Header),

@@ -1,22 +1,24 @@
 // The kinds of record as a reader gives them: the typed fields of each, and its limits as named constants.
+#![tactic(auto)]
+
 use cgx_spec::{Kind, Offset, Real, Run};
 
 // ---- what fields are made of
 
 // The text of a string, a part of the file.
-#[derive(Drop)]
+#[derive(Clone, Copy)]
 pub struct TextSpan {
     pub at: usize,
     pub len: usize,
 }
 
-#[derive(Drop)]
+#[derive(Clone, Copy)]
 pub enum Name {
     Absent,
     Present(TextSpan),
 }
 
-#[derive(Drop)]
+#[derive(Clone, Copy)]
 pub struct Date {
     pub year: i16,
     pub month: u8,
@@ -27,33 +29,33 @@ pub struct Date {
 }
 
 // Readers have confused the two: each is a number of its own kind.
-#[derive(Drop)]
+#[derive(Clone, Copy)]
 pub struct LayerNo(pub i16);
 
-#[derive(Drop)]
+#[derive(Clone, Copy)]
 pub struct DataType(pub i16);
 
-#[derive(Drop)]
+#[derive(Clone, Copy)]
 pub struct Point {
     pub x: i32,
     pub y: i32,
 }
 
 // Boxes or points, one after another in the file: the offset of the first, and how many.
-#[derive(Drop)]
+#[derive(Clone, Copy)]
 pub struct ItemList {
     pub first: usize,
     pub count: usize,
 }
 
-#[derive(Drop)]
+#[derive(Clone, Copy)]
 pub enum OptionalReal {
     Missing,
     Given(Real),
 }
 
 // An SREF without ARRAY, or its columns, rows and two points.
-#[derive(Drop)]
+#[derive(Clone, Copy)]
 pub enum Array {
     Single,
     Of {
@@ -66,7 +68,7 @@ pub enum Array {
 
 // ---- the eleven kinds
 
-#[derive(Drop)]
+#[derive(Clone, Copy)]
 pub struct Library {
     pub munit: Real,
     pub uunit: Real,
@@ -75,56 +77,56 @@ pub struct Library {
     pub name: TextSpan,
 }
 
-#[derive(Drop)]
+#[derive(Clone, Copy)]
 pub struct Struct {
     pub created: Date,
     pub modified: Date,
     pub name: TextSpan,
 }
 
-#[derive(Drop)]
+#[derive(Clone, Copy)]
 pub struct Cprpty {
     pub number: i32,
     pub value: TextSpan,
 }
 
-#[derive(Drop)]
+#[derive(Clone, Copy)]
 pub struct Property {
     pub number: i32,
     pub value: TextSpan,
 }
 
-#[derive(Drop)]
+#[derive(Clone, Copy)]
 pub struct Layer {
     pub number: LayerNo,
     pub datatype: DataType,
     pub name: Name,
 }
 
-#[derive(Drop)]
+#[derive(Clone, Copy)]
 pub struct Boxes {
     pub boxes: ItemList,
 }
 
-#[derive(Drop)]
+#[derive(Clone, Copy)]
 pub struct Poly {
     pub points: ItemList,
 }
 
-#[derive(Drop)]
+#[derive(Clone, Copy)]
 pub struct Wire {
     pub width: i32,
     pub points: ItemList,
 }
 
-#[derive(Drop)]
+#[derive(Clone, Copy)]
 pub struct Text {
     pub at: Point,
     pub width: i32,
     pub label: TextSpan,
 }
 
-#[derive(Drop)]
+#[derive(Clone, Copy)]
 pub struct Sref {
     pub at: Point,
     pub angle: OptionalReal,
@@ -133,7 +135,7 @@ pub struct Sref {
     pub name: TextSpan,
 }
 
-#[derive(Drop)]
+#[derive(Clone, Copy)]
 pub enum Fields {
     Library(Library),
     Struct(Struct),
@@ -149,7 +151,7 @@ pub enum Fields {
 }
 
 // A record as a walk gives it, with the offsets of its STRUCT and LAYER, and the run of properties that it takes.
-#[derive(Drop)]
+#[derive(Clone, Copy)]
 pub struct View {
     pub kind: Kind,
     pub flags: u8,
@@ -256,7 +258,7 @@ impl Sref {
 }
 
 // An ENDLIB has no fields.
-#[derive(Drop)]
+#[derive(Clone, Copy)]
 pub struct Endlib;
 
 impl Endlib {

@@ -7,7 +7,7 @@ ghost use Rattle.cgx_format_phases.specs.Phases.{is_ended, allowed_phase, after_
 use cgx_format_headers::RecordType;
 use cgx_spec::Kind;
 
-#[derive(Drop)]
+#[derive(Clone, Copy)]
 pub enum Phase {
     // Nothing has been read.
     Start,

@@ -1,10 +1,12 @@
 // An SREF's layout: which of angle, magnif and array its flags say that it has, and where its fields begin.
+#![tactic(auto)]
+
 ghost use Rattle.std.specs.Prelude.{◌≡◌, cond, ◌+◌, ◌≤◌};
 ghost use Rattle.cgx_format_sref.specs.Layouts.{sref_layout, Laid};
 
 use cgx_format_kinds::Sref;
 
-#[derive(Drop)]
+#[derive(Clone, Copy)]
 pub struct SrefLayout {
     // It has an angle, a magnif, an array.
     pub turned: bool,

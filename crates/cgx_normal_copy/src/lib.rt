@@ -71,7 +71,7 @@ fn copy_flagged(whole: &[u8], flags: u8, out: &mut [u8], to: usize)
 // ---- reals
 
 // The reals of a body: at most two, one after another from byte `skip` on.
-#[derive(Drop)]
+#[derive(Clone, Copy)]
 struct Reals {
     skip: usize,
     first: bool,

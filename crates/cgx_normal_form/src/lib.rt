@@ -11,7 +11,7 @@ use cgx_read_sequence::{Next, next_known};
 use cgx_spec::Offset;
 
 // What the maker answers.
-#[derive(Drop)]
+#[derive(Clone, Copy)]
 pub enum NormalAnswer {
     // The file's refusal with its place, or 14 with none.
     Refused { number: u8, at: Offset },

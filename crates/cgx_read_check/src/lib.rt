@@ -11,7 +11,7 @@ use cgx_read_judge::{Judged, judge};
 use cgx_spec::Verdict;
 
 // A verdict, with the length of the normal form of a file that is accepted.
-#[derive(Drop)]
+#[derive(Clone, Copy)]
 pub enum Measured {
     Accepted { length: usize },
     Refused { number: u8, at: usize },

@@ -8,7 +8,7 @@ use cgx_format_phases::{Phase, has_ended, is_allowed, phase_after};
 use cgx_format_records::record_fault;
 use cgx_spec::{Kind, Verdict};
 
-#[derive(Drop)]
+#[derive(Clone, Copy)]
 pub enum Judged {
     // The walk ends here.
     Stop(Verdict),

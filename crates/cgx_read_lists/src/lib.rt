@@ -5,7 +5,7 @@ ghost use Rattle.cgx_read_lists.specs.Lists.{item_inside, box_of, point_of, with
 use cgx_format_kinds::{Boxes, ItemList, Point, Poly, TextSpan};
 use numbers::long_at;
 
-#[derive(Drop)]
+#[derive(Clone, Copy)]
 pub enum BoxAt {
     // The list is shorter, or the box does not lie inside the file.
     Outside,
@@ -17,7 +17,7 @@ pub enum BoxAt {
     },
 }
 
-#[derive(Drop)]
+#[derive(Clone, Copy)]
 pub enum PointAt {
     Outside,
     Found(Point),

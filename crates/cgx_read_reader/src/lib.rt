@@ -46,7 +46,7 @@ pub fn read_next(file: &[u8], place: Cursor) -> Outcome
 }
 
 // What a step answers, and the place after it.
-#[derive(Drop)]
+#[derive(Clone, Copy)]
 pub struct Moved {
     pub outcome: Outcome,
     pub place: Cursor,

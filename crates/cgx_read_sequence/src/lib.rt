@@ -6,7 +6,7 @@ use cgx_format_headers::{RecordType, header_of};
 use cgx_spec::Kind;
 
 // A known record, by its offset and its header.
-#[derive(Drop)]
+#[derive(Clone, Copy)]
 pub struct KnownRecord {
     pub at: usize,
     pub size: usize,
@@ -14,7 +14,7 @@ pub struct KnownRecord {
     pub flags: u8,
 }
 
-#[derive(Drop)]
+#[derive(Clone, Copy)]
 pub enum Next {
     Found(KnownRecord),
     End,

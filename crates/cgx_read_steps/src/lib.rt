@@ -3,7 +3,7 @@ use cgx_format_headers::Header;
 use cgx_spec::Verdict;
 
 // What comes of the record at an offset: the end of a walk, or the header of a good record. Only definitions and proofs use it.
-#[derive(Drop)]
+#[derive(Clone, Copy)]
 pub enum Stepped {
     Stop(Verdict),
     Go(Header),

@@ -12,7 +12,7 @@ use cgx_read_views::view_at;
 use cgx_spec::{Kind, Offset, Verdict};
 
 // What starting a walk answers.
-#[derive(Drop)]
+#[derive(Clone, Copy)]
 pub enum Started {
     Ready(Cursor),
     // 1 or 2, at 0.
@@ -20,7 +20,7 @@ pub enum Started {
 }
 
 // What one step answers.
-#[derive(Drop)]
+#[derive(Clone, Copy)]
 pub enum Outcome {
     // The next known record, and the place after it.
     Record(View, Cursor),
@@ -67,7 +67,7 @@ pub fn step(file: &[u8], place: Cursor) -> Outcome
 // ---- the next known record
 
 // What a step comes to before it judges a known record.
-#[derive(Drop)]
+#[derive(Clone, Copy)]
 pub enum Sought {
     // Refusal 16.
     Forged,

@@ -1,7 +1,9 @@
 // The types of the definitions in specs/, which all code above shares, but for Context, Need and Place: code has a cursor in their stead (`cgx_format_cursor`).
 
 // The eleven kinds of record, in the order of their type bytes 0 to 10.
-#[derive(Drop)]
+#![tactic(auto)]
+
+#[derive(Clone, Copy)]
 pub enum Kind {
     Library,
     Struct,
@@ -26,21 +28,21 @@ impl Kind {
 }
 
 // An offset in a file, or none.
-#[derive(Drop)]
+#[derive(Clone, Copy)]
 pub enum Offset {
     Nowhere,
     At(usize),
 }
 
 // The PROPERTY records that await their object: none, or the offset of the first and how many.
-#[derive(Drop)]
+#[derive(Clone, Copy)]
 pub enum Run {
     Empty,
     Of { first: usize, count: usize },
 }
 
 // What has been read before a record.
-#[derive(Drop)]
+#[derive(Clone, Copy)]
 pub struct Context {
     // LIBRARY has been read.
     pub library: bool,
@@ -55,7 +57,7 @@ pub struct Context {
 }
 
 // What a record may need of the context before it, in the order in which rule 6 looks at them.
-#[derive(Drop)]
+#[derive(Clone, Copy)]
 pub enum Need {
     LibraryBefore,
     NoLibraryBefore,
@@ -66,14 +68,14 @@ pub enum Need {
 }
 
 // Where a walk is: the offset of the next record and the context so far.
-#[derive(Drop)]
+#[derive(Clone, Copy)]
 pub struct Place {
     pub at: usize,
     pub context: Context,
 }
 
 // What is said of a whole file.
-#[derive(Drop)]
+#[derive(Clone, Copy)]
 pub enum Verdict {
     Accepted,
     // The refusal's number and the place that it names.
@@ -81,7 +83,7 @@ pub enum Verdict {
 }
 
 // A real as the double that equals it, or by its parts where no double does.
-#[derive(Drop)]
+#[derive(Clone, Copy)]
 pub enum Real {
     Exact(f64),
     Inexact { negative: bool, e: u8, m: u64 },

@@ -31,7 +31,7 @@ fn read_from(file: &[u8], first: Cursor) {
 }
 
 // Where a reader is after a step, and whether it was given a record.
-#[derive(Drop)]
+#[derive(Clone, Copy)]
 struct Shown {
     more: bool,
     place: Cursor,

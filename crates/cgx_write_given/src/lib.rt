@@ -17,7 +17,7 @@ use numbers::{LONG_SIZE, WordBytes, short_bytes};
 // ---- what is given
 
 // A wire's end style, or none stated.
-#[derive(Drop)]
+#[derive(Clone, Copy)]
 pub enum EndStyle {
     Unstated,
     Stated(u8),
@@ -39,7 +39,7 @@ impl EndStyle {
 }
 
 // What a property is of: the cell (CPRPTY), or the object that follows (PROPERTY).
-#[derive(Drop)]
+#[derive(Clone, Copy)]
 pub enum Owner {
     Cell,
     Object,
@@ -57,7 +57,7 @@ impl Owner {
 }
 
 // The array of an SREF: it counts where flag 8 is set.
-#[derive(Drop)]
+#[derive(Clone, Copy)]
 pub struct Grid {
     pub cols: i32,
     pub rows: i32,
@@ -90,7 +90,7 @@ pub fn all_longs(zs: &[i32])
 // ---- what is answered
 
 // A writer between two calls. Only its place is kept: where its next record would begin, and what it has written before that.
-#[derive(Drop)]
+#[derive(Clone, Copy)]
 pub struct Writer {
     pub cursor: Cursor,
 }
@@ -108,7 +108,7 @@ impl Writer {
 
 // What a call answers: 0 and the writer after the record; or the number of the refusal, the offset that it names and the writer as it was given. No record has offset 0, so
 // that 0 is none.
-#[derive(Drop)]
+#[derive(Clone, Copy)]
 pub struct Answer {
     pub number: u8,
     pub at: usize,

@@ -1,9 +1,11 @@
 // The eight-byte real that equals a double, made from the double's bits with whole numbers alone.
+#![tactic(auto)]
+
 ghost use Rattle.std.specs.Prelude.{◌≡◌, ◌^◌, ◌<◌};
 ghost use Rattle.doubles.specs.Doubles.{real, raised, lowered, real_from};
 
 // Whether some real is read as the double (none is as −0), and then the word of the normal one that is, else 0.
-#[derive(Drop)]
+#[derive(Clone, Copy)]
 pub struct FromDouble {
     pub exact: bool,
     pub word: u64,
