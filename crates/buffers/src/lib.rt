@@ -1,4 +1,6 @@
 // Stores into a lent buffer: each says what the whole buffer holds afterwards. The caller shows that there is room.
+#![tactic(auto)]
+
 ghost use Rattle.std.specs.Prelude.{◌≡◌, ◌+◌, ◌*◌, ◌≤◌, length};
 ghost use Rattle.cgx_spec.specs.Numbers.{digits, short_bytes, long_bytes};
 ghost use Rattle.cgx_spec.specs.Strings.{padded};

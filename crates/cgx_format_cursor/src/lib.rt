@@ -1,4 +1,6 @@
 // A walk's and a writer's place in plain numbers, where 0 is none: no record has offset 0. `place_in` says which place of the definitions a cursor is.
+#![tactic(auto)]
+
 ghost use Rattle.std.specs.Prelude.{◌≡◌, ◌<◌};
 ghost use Rattle.std.proofs.Math.Option.{some};
 ghost use Rattle.cgx_spec.specs.Order.{start, allowed, next};

@@ -1,5 +1,7 @@
 // The rules 9 to 12 of a record's fields, each on the bytes of the field.
 // The loops over the bytes of a text have no early exit: several bytes can then be taken at a time.
+#![tactic(auto)]
+
 ghost use Rattle.std.specs.Prelude.{◌≡◌, not, ◌&&◌, ◌+◌, ◌%◌, ◌≤◌, ◌<◌, eqb, length, take, drop};
 ghost use Rattle.std.specs.Int.Signed.{le_z};
 ghost use Rattle.cgx_spec.specs.Numbers.{long_of, longs_of};

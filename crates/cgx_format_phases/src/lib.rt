@@ -1,4 +1,6 @@
 // Phases: what rule 6 sees of a context, as one small value. Who only judges needs no offsets, and goes from record to record with a phase.
+#![tactic(auto)]
+
 ghost use Rattle.std.specs.Prelude.{◌≡◌};
 ghost use Rattle.std.proofs.Math.Option.{some};
 ghost use Rattle.cgx_format_headers.specs.Headers.{kind_in};

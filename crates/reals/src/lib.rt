@@ -1,5 +1,7 @@
 // Eight-byte reals: what a real is answered with, whether it is above zero, and the normal real equal to it.
 // Each of the word w that the eight bytes make; the last two also of the bytes.
+#![tactic(auto)]
+
 ghost use Rattle.std.specs.Prelude.{◌≡◌, false, ◌*◌, ◌^◌, ◌<◌, length};
 ghost use Rattle.std.specs.Float.{binary64};
 ghost use Rattle.std.specs.Float.Ieee.{round};

@@ -1,0 +1,16 @@
+-- `buffers::put_each` is right: at each turn, storing what is left of the source gives what the whole store is to give. Assumes nothing.
+use borrow.Author.Rules.{rules}
+use mathlib.Core.Path.{◌≡◌, refl, sym, ap, ◌∙◌}
+use Prim.Native.Nat.{ℕ, ◌+◌, ◌-◌, ◌≤◌, ◌<◌}
+use native.Mathlib.Nat.{add-zero}
+use native.Mathlib.Omega.{arith}
+use lib.ListN.{length, drop, length-set}
+use Rattle.buffers.specs.Put.{put}
+use Rattle.buffers.proofs.Puts.{put_copy, put-end}
+use Rattle.buffers.proofs.put_each.Given as goal
+
+abbrev pub invariant-loop-i : goal.invariant-loop-i
+invariant-loop-i l = (l.i ≤ length l.at) × (length l.initial.i ≡ length l.initial.out) × (put l.initial.i (l.out + l.i) (drop l.i l.at) ≡ put l.initial.out l.out l.at)
+
+abbrev pub decreases-loop-i : goal.decreases-loop-i
+decreases-loop-i l = length l.at - l.i
