@@ -10,7 +10,7 @@ use Rattle.buffers.proofs.Puts.{put_copy, put-end}
 use Rattle.buffers.proofs.put_each.Given as goal
 
 abbrev pub invariant-loop-i : goal.invariant-loop-i
-invariant-loop-i l = (l.i ≤ length l.at) × (length l.initial.i ≡ length l.initial.out) × (put l.initial.i (l.out + l.i) (drop l.i l.at) ≡ put l.initial.out l.out l.at)
+invariant-loop-i l = (l.i ≤ length l.src) × (length l.out ≡ length l.initial.out) × (put l.out (l.at + l.i) (drop l.i l.src) ≡ put l.initial.out l.at l.src)
 
 abbrev pub decreases-loop-i : goal.decreases-loop-i
-decreases-loop-i l = length l.at - l.i
+decreases-loop-i l = length l.src - l.i

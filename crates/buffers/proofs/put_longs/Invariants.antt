@@ -14,7 +14,7 @@ use borrow.Author.Rules.{rules}
 use Rattle.buffers.proofs.put_longs.Given as goal
 
 abbrev pub invariant-loop-i : goal.invariant-loop-i
-invariant-loop-i l = (l.i ≤ length l.at) × (length l.initial.i ≡ length l.initial.out) × (put l.initial.i (l.out + 4 * l.i) (longs_bytes (drop l.i l.at)) ≡ put l.initial.out l.out (longs_bytes l.at))
+invariant-loop-i l = (l.i ≤ length l.ns) × (length l.out ≡ length l.initial.out) × (put l.out (l.at + 4 * l.i) (longs_bytes (drop l.i l.ns)) ≡ put l.initial.out l.at (longs_bytes l.ns))
 
 abbrev pub decreases-loop-i : goal.decreases-loop-i
-decreases-loop-i l = length l.at - l.i
+decreases-loop-i l = length l.ns - l.i

@@ -22,4 +22,4 @@ bounds-out-last c = let s = c in
 
 pub returns : goal.returns
 returns c = let a = c.args in
-    pad-both a.out.now c.put_bytes.new.0 a.text.now a.at c.put_bytes.ensures
+    pad-both a.out.now c.put_bytes.new.out a.text.now a.at c.put_bytes.ensures

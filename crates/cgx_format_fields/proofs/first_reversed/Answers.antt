@@ -15,14 +15,14 @@ loop-at-init c = (omega arith, refl, refl)
 pub returns-then-not-box_good : goal.returns-then-not-box_good
 returns-then-not-box_good c = let f = c.box_good in
     let l = c.loop-at in
-    box-reversed c.args.b.now l.at (omega arith) l.invariant.2 f.ensures (not-true f.result c.if-not-box_good.true)
+    box-reversed c.args.b.now l.at (omega arith) l.invariant.2 f.ensures c.if-not-box_good.true
 
 pub loop-at-preserved : goal.loop-at-preserved
 loop-at-preserved c = let f = c.box_good in
     let l = c.loop-at in (
       omega arith,
       omega arith,
-      box-on c.args.b.now l.at (omega arith) l.invariant.2 f.ensures (not-false f.result c.if-not-box_good.false),
+      box-on c.args.b.now l.at (omega arith) l.invariant.2 f.ensures c.if-not-box_good.false,
     )
 
 pub returns : goal.returns

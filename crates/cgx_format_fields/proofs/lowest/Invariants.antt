@@ -11,7 +11,7 @@ use borrow.Author.Rules.{rules}
 use Rattle.cgx_format_fields.proofs.lowest.Given as goal
 
 abbrev pub invariant-loop-i : goal.invariant-loop-i
-invariant-loop-i l = (l.i ≤ length l.b) × (no_zero l.b ≡ (not (eqb l.initial.i 0) && no_zero (drop l.i l.b)))
+invariant-loop-i l = (l.i ≤ length l.b) × (no_zero l.b ≡ (not (eqb l.low 0) && no_zero (drop l.i l.b)))
 
 abbrev pub decreases-loop-i : goal.decreases-loop-i
 decreases-loop-i l = length l.b - l.i

@@ -9,7 +9,7 @@ use Rattle.cgx_format_fields.proofs.Strings.{none-on, none_done}
 use Rattle.cgx_format_fields.proofs.none_in.Given as goal
 
 abbrev pub invariant-loop-i : goal.invariant-loop-i
-invariant-loop-i l = (l.i ≤ length l.b) × (no_zero l.b ≡ (l.initial.i && no_zero (drop l.i l.b)))
+invariant-loop-i l = (l.i ≤ length l.b) × (no_zero l.b ≡ (l.none && no_zero (drop l.i l.b)))
 
 abbrev pub decreases-loop-i : goal.decreases-loop-i
 decreases-loop-i l = length l.b - l.i

@@ -16,13 +16,13 @@ pub returns-then-not-none_in_piece : goal.returns-then-not-none_in_piece
 returns-then-not-none_in_piece c = let f = c.none_in_piece in
     let l = c.loop-at in
     let a = c.args in
-    piece-zero a.b.now l.at l.invariant.1 a.size f.ensures (not-true f.result c.if-not-none_in_piece.true)
+    piece-zero a.b.now l.at l.invariant.1 a.size f.ensures c.if-not-none_in_piece.true
 
 pub loop-at-preserved : goal.loop-at-preserved
 loop-at-preserved c = let f = c.none_in_piece in
     let l = c.loop-at in
     let a = c.args in
-    (omega arith, piece-on a.b.now l.at l.invariant.1 a.size f.ensures ∙ not-false f.result c.if-not-none_in_piece.false)
+    (omega arith, piece-on a.b.now l.at l.invariant.1 a.size f.ensures ∙ c.if-not-none_in_piece.false)
 
 pub returns : goal.returns
 returns c = let l = c.loop-at in

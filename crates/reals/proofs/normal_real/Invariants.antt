@@ -9,7 +9,7 @@ use Rattle.cgx_spec.proofs.RealLaws.{lower-step, lower-full, lower-end, normal-o
 use Rattle.reals.proofs.normal_real.Given as goal
 
 abbrev pub invariant-loop-m : goal.invariant-loop-m
-invariant-loop-m l = (lower l.e l.initial.e ≡ lower l.m l.initial.m) × (l.initial.e < 2 ^ 56) × (l.e < 128)
+invariant-loop-m l = (lower l.e l.m ≡ lower l.initial.e l.initial.m) × (l.m < 2 ^ 56) × (l.e < 128)
 
 abbrev pub decreases-loop-m : goal.decreases-loop-m
 decreases-loop-m l = l.e
