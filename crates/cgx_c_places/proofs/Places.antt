@@ -6,7 +6,7 @@ use Prim.Native.Nat.{ℕ, zero, suc, ◌/◌, ◌%◌}
 use lib.Dec.{eqb, eqb-suc-zero}
 use lib.ListN.{get_or}
 use Rattle.cgx_format_cursor.specs.declared.Cursor.{Cursor}
-use Rattle.cgx_format_cursor.specs.Cursors.{offset_in, run_in, context_in, place_in, state_of, cursor_of, run_first, run_count, first_of}
+use Rattle.cgx_format_cursor.specs.Cursors.{run_in, context_in, place_in, state_of, cursor_of, run_first, run_count, first_of}
 use Rattle.cgx_format_cursor.proofs.Laws.{number-back}
 use Rattle.cgx_c_places.specs.Words.{bit, seen_word, cursor_words, cursor_in}
 

@@ -19,7 +19,7 @@ use Rattle.cgx_format_records.proofs.Rules.{first-6, flags-7, body-8}
 use Rattle.cgx_format_kinds.specs.declared.View.{View}
 use Rattle.cgx_format_cursor.specs.declared.State.{State}
 use Rattle.cgx_format_cursor.specs.declared.Cursor.{Cursor}
-use Rattle.cgx_format_cursor.specs.Cursors.{offset_in, run_in, context_in, place_in, state_of, cursor_of}
+use Rattle.cgx_format_cursor.specs.Cursors.{offset_in, run_in, context_in, state_of}
 use Rattle.buffers.specs.Put.{put}
 use Rattle.cgx_read_fields.proofs.Ready.{read_as}
 use Rattle.cgx_read_walk.specs.declared.Outcome.TheVariants.{Record, Done, Refused}

@@ -9,8 +9,6 @@ use lib.IntN.{ℤ}
 use lib.ListN.{length, set}
 use lib.Seq.{set_comm}
 use Rattle.cgx_spec.specs.declared.Kind.{Kind}
-use Rattle.cgx_spec.specs.declared.Offset.{Offset}
-use Rattle.cgx_spec.specs.declared.Run.{Run}
 use Rattle.cgx_format_kinds.specs.declared.Array.{Array}
 use Rattle.cgx_format_kinds.specs.declared.Array.TheVariants.{Single, Of as ArrayOf}
 use Rattle.cgx_format_kinds.specs.declared.Name.{Name}

@@ -1,8 +1,8 @@
 -- Offsets and runs as numbers, where 0 is none. Assumes nothing.
 use mathlib.Core.Path.{◌≡◌, refl, sym, ap, ap₂, ◌∙◌}
-use mathlib.Core.Bool.{Bool, true, false, not, ◌&&◌, cond}
+use mathlib.Core.Bool.{Bool, true, false, not, ◌&&◌}
 use mathlib.Core.Option.{none, some}
-use Prim.Native.Nat.{ℕ, zero, suc, ◌+◌, ◌<◌, ◌≤◌}
+use Prim.Native.Nat.{ℕ, zero, suc, ◌+◌, ◌<◌}
 use lib.Dec.{eqb, leb, leb-zero, eqb-suc-zero}
 use Rattle.cgx_spec.specs.Order.{start, present, awaiting, longer, allowed, next}
 use Rattle.cgx_spec.specs.Walking.{first_place, offset_up_to, run_up_to}
@@ -16,7 +16,6 @@ use Rattle.cgx_spec.proofs.Lists.{and-true, and_assoc}
 use Rattle.cgx_spec.specs.declared.Run.TheVariants.{Empty, Of}
 use native.Mathlib.Omega.{arith}
 use Rattle.cgx_format_cursor.specs.declared.State.{State}
-use Rattle.cgx_format_cursor.specs.declared.Cursor.{Cursor}
 use Rattle.cgx_format_cursor.specs.Cursors.{offset_in, run_in, context_in, place_in, offset_number, run_first, run_count, state_of, cursor_of, needs_met, none_awaiting, first_of, state_after}
 
 -- ---- needs, as `every` has them

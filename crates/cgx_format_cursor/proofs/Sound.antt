@@ -3,7 +3,7 @@ use mathlib.Core.Path.{◌≡◌, sym, subst}
 use mathlib.Core.Bool.{Bool, true, false, not, ◌&&◌}
 use Prim.Native.Nat.{ℕ, zero, suc, ◌%◌, ◌≤◌}
 use native.Mathlib.Omega.{arith}
-use lib.Dec.{T, leb, eqb, leb→le, eqb-suc-zero}
+use lib.Dec.{T, leb, eqb, leb→le}
 use Rattle.cgx_spec.specs.Walking.{offset_up_to, run_up_to, forged}
 use Rattle.cgx_spec.proofs.Lists.{true→T, and_left, and_right}
 use Rattle.cgx_format_cursor.specs.declared.Cursor.{Cursor}

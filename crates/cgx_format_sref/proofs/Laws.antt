@@ -6,7 +6,7 @@ use native.Mathlib.Omega.{arith}
 use lib.Dec.{T}
 use Rattle.cgx_spec.specs.Kinds.{angle, magnif, array}
 use Rattle.cgx_format_sref.specs.declared.SrefLayout.{SrefLayout}
-use Rattle.cgx_format_sref.specs.Layouts.{magnif_offset, array_offset, name_offset, sref_layout, Laid}
+use Rattle.cgx_format_sref.specs.Layouts.{array_offset, name_offset, sref_layout, Laid}
 
 never : {A : Type 0} → false ≡ true → A
 never q = absurd (subst (λ (v : Bool). T (not v)) q tt)

@@ -1,14 +1,14 @@
 -- A body is its fields by their offsets in the file, where their lengths fit. Assumes nothing.
 use mathlib.Core.Path.{◌≡◌, refl, sym, ap, ap₂, ◌∙◌, subst}
-use mathlib.Core.Bool.{Bool, true, false, cond}
+use mathlib.Core.Bool.{Bool}
 use mathlib.Core.List.{List, [], ◌∷◌}
-use Prim.Native.Nat.{ℕ, zero, suc, ◌+◌, ◌*◌, ◌-◌, ◌/◌, ◌≤◌}
-use native.Mathlib.Nat.{le_refl, mul_comm, sub-zero}
+use Prim.Native.Nat.{ℕ, zero, suc, ◌+◌, ◌-◌, ◌≤◌}
+use native.Mathlib.Nat.{sub-zero}
 use native.Mathlib.Omega.{arith}
-use lib.Dec.{T, eqb, eqb→eq}
+use lib.Dec.{T}
 use lib.ListN.{length, take, drop, length-take, length-drop}
 use lib.Seq.{length-take-le, take-take, take-nil, drop-drop}
-use Rattle.cgx_spec.specs.Fields.{Field, real, positive, date, short, longs, string, optional, absent, units, fits, width, Piece, pieces, lengths_fit}
+use Rattle.cgx_spec.specs.Fields.{Field, fits, width, Piece, pieces, lengths_fit}
 use Rattle.cgx_spec.proofs.Lists.{every-cons}
 use Rattle.cgx_spec.proofs.Pieces.{full}
 use Rattle.cgx_read_fields.specs.Views.{pieces_at}

@@ -1,7 +1,7 @@
 -- What a readable record gives the reader of its kind: its size is one that the kind may have, its strings are good, and its fields are at their offsets
 -- in the file. Assumes nothing.
 use mathlib.Core.Path.{◌≡◌, refl, sym, ap, ◌∙◌, subst}
-use mathlib.Core.Bool.{Bool, true, ◌&&◌}
+use mathlib.Core.Bool.{true, ◌&&◌}
 use mathlib.Core.List.{List, [], ◌∷◌}
 use Prim.Native.Nat.{ℕ, ◌+◌, ◌*◌, ◌-◌, ◌%◌, ◌≤◌}
 use native.Mathlib.Omega.{arith}
@@ -11,7 +11,7 @@ use lib.Seq.{length-take-le}
 use Rattle.cgx_spec.specs.declared.Kind.{Kind}
 use Rattle.cgx_spec.specs.declared.Kind.TheVariants.{Library, Struct, Cprpty, Property, Layer, Box, Poly, Wire, Text, Endlib}
 use Rattle.cgx_spec.specs.Strings.{good_string}
-use Rattle.cgx_spec.specs.Fields.{optional, value, width, rule_of, good, Piece, pieces, lengths_fit, keeps, values}
+use Rattle.cgx_spec.specs.Fields.{optional, value, width, rule_of, good, Piece, pieces, keeps, values}
 use Rattle.cgx_spec.specs.Kinds.{layout}
 use Rattle.cgx_spec.specs.Records.{Rec, pieces_of}
 use Rattle.cgx_spec.specs.Walking.{Held, rec_at}

@@ -5,8 +5,7 @@ use mathlib.Core.List.{List, [], ◌∷◌}
 use Prim.Native.Nat.{ℕ, ◌+◌, ◌-◌, ◌≤◌}
 use native.Mathlib.Omega.{arith}
 use lib.Dec.{T, leb→le}
-use lib.IntN.{ℤ}
-use lib.ListN.{length, take, drop}
+use lib.ListN.{take, drop}
 use Rattle.cgx_spec.specs.declared.Kind.TheVariants.{Sref as sref}
 use Rattle.cgx_spec.specs.Numbers.{long_of, longs_of}
 use Rattle.cgx_spec.specs.Strings.{good_string}
@@ -19,7 +18,7 @@ use Rattle.cgx_format_kinds.specs.declared.TextSpan.{TextSpan}
 use Rattle.cgx_format_kinds.specs.declared.OptionalReal.{OptionalReal}
 use Rattle.cgx_format_kinds.specs.declared.Array.{Array}
 use Rattle.cgx_format_kinds.specs.declared.Fields.TheVariants.{Sref}
-use Rattle.cgx_format_kinds.specs.Meant.{one, span_text, optional_value, array_values, field_values, fields_kind}
+use Rattle.cgx_format_kinds.specs.Meant.{span_text, optional_value, array_values, field_values, fields_kind}
 use Rattle.cgx_format_sref.specs.declared.SrefLayout.{SrefLayout}
 use Rattle.cgx_format_sref.specs.Layouts.{magnif_offset, array_offset, name_offset, sref_layout, Laid}
 use Rattle.cgx_read_fields.specs.Views.{Readable, TextAt, FieldsAt, ReadAt, pieces_at, values_at, StringAt, AnswerAt, real_if, array_if, ArrayIs}

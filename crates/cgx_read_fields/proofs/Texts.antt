@@ -1,6 +1,5 @@
 -- Where the text of a good string ends: its last byte but one is the first of two zero bytes, or the last of the text. Assumes nothing.
 use mathlib.Core.Path.{◌≡◌, refl, sym, ap, ◌∙◌, subst}
-use mathlib.Core.Bool.{true}
 use mathlib.Core.List.{List, [], ◌∷◌}
 use Prim.Native.Nat.{ℕ, zero, suc, ◌+◌, ◌-◌, ◌≤◌}
 use native.Mathlib.Nat.{suc-ne-zero}
@@ -11,7 +10,6 @@ use lib.Seq.{length-take-le, take-take, get_or-take, get_or-drop}
 use Rattle.cgx_spec.specs.Strings.{text_of, padded, same, good_string}
 use Rattle.cgx_spec.specs.Fields.{string, text, value}
 use Rattle.cgx_spec.proofs.Lists.{true→T, and_right, same→eq}
-use Rattle.cgx_format_kinds.specs.declared.TextSpan.{TextSpan}
 use Rattle.cgx_format_kinds.specs.Meant.{span_text}
 use Rattle.cgx_read_fields.specs.Views.{StringAt}
 

@@ -1,11 +1,11 @@
 -- What is read by an index or a span is what a view says: in a list that lies inside the file, the i-th box is numbers 4 i to 4 i + 3 of the list's, the
 -- i-th point numbers 2 i and 2 i + 1, and the bytes of a span inside the file are its text. Assumes nothing.
-use mathlib.Core.Path.{◌≡◌, refl, sym, ap, ◌∙◌, subst}
+use mathlib.Core.Path.{◌≡◌, refl, sym, ap, ◌∙◌}
 use mathlib.Core.Bool.{true}
 use mathlib.Core.List.{List, [], ◌∷◌}
 use Prim.Native.Nat.{ℕ, zero, suc, ◌+◌, ◌*◌, ◌-◌, ◌≤◌, ◌<◌}
 use native.Mathlib.Omega.{arith}
-use lib.IntN.{ℤ, pos}
+use lib.IntN.{pos}
 use lib.ListN.{length, take, drop, get_or, length-drop}
 use lib.Seq.{length-take-le, take-take, take-add, drop_at, drop-drop}
 use Rattle.cgx_spec.specs.Numbers.{long_of, longs_of}

@@ -1,11 +1,11 @@
 -- The test of an index, by the count and by the bytes that are left: one law for every unit. What is answered by it. Assumes nothing.
 use mathlib.Core.Path.{◌≡◌, refl, sym, ap, ◌∙◌}
-use mathlib.Core.Bool.{Bool, true, false, ◌&&◌}
+use mathlib.Core.Bool.{true, false, ◌&&◌}
 use mathlib.Core.List.{List, []}
 use Prim.Native.Nat.{ℕ, ◌+◌, ◌*◌, ◌-◌, ◌/◌, ◌≤◌, ◌<◌}
 use native.Mathlib.Nat.{le-div_iff_mul-le, mul_comm, mul-add, mul-one}
 use native.Mathlib.Omega.{arith}
-use lib.Dec.{T, ltb, leb, lt→ltb, ltb→lt, le→leb, leb→le}
+use lib.Dec.{ltb, leb, lt→ltb, ltb→lt, le→leb, leb→le}
 use lib.IntN.{ℤ}
 use lib.ListN.{length, take, drop}
 use Rattle.cgx_spec.proofs.Lists.{T→true, true→T, ¬T→false, bool-ext, and_left, and_right, and_both}

@@ -8,7 +8,7 @@ ghost use Rattle.cgx_read_reader.specs.Reading.{left_at, Moves};
 use cgx_format_cursor::Cursor;
 use cgx_read_walk::{Outcome, step};
 
-#[derive(Drop)]
+#[derive(Clone, Copy)]
 pub struct Reader<'a> {
     pub file: &'a [u8],
     pub place: Cursor,

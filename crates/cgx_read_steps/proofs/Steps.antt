@@ -15,7 +15,7 @@ use Rattle.cgx_spec.specs.Fields.{every}
 use Rattle.cgx_spec.specs.Kinds.{kind_of}
 use Rattle.cgx_spec.specs.Order.{allowed}
 use Rattle.cgx_spec.specs.Records.{Rec, Rule, rules, broken, fault_of}
-use Rattle.cgx_spec.specs.Files.{cut, stop, go, step, judge, settle, finish}
+use Rattle.cgx_spec.specs.Files.{cut, stop, step, judge, settle, finish}
 use Rattle.cgx_spec.specs.Walking.{rec_at, Held}
 use Rattle.cgx_spec.proofs.Lists.{and_left, and_right}
 use Rattle.cgx_format_bodies.specs.Bodies.{Body, number_or0}

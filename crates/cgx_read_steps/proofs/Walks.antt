@@ -1,7 +1,7 @@
 -- The laws of the loop over a file. Assumes nothing.
 use mathlib.Core.Path.{◌≡◌, refl, sym, ap, ◌∙◌, subst}
 use mathlib.Core.List.{List, []}
-use Prim.Native.Nat.{ℕ, zero, suc, ◌+◌, ◌-◌}
+use Prim.Native.Nat.{ℕ, zero, suc, ◌+◌}
 use lib.ListN.{length, drop, get_or}
 use Rattle.cgx_spec.specs.Kinds.{kind_of}
 use Rattle.cgx_spec.specs.Order.{start, next}

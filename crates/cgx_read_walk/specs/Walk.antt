@@ -9,7 +9,6 @@ use Rattle.cgx_spec.specs.Order.{next}
 use Rattle.cgx_spec.specs.Records.{Placed, view_of}
 use Rattle.cgx_spec.specs.Walking.{first_place, Answer, seen, done, refused_at, ending, answer, step_of, rec_at}
 use Rattle.cgx_format_kinds.specs.Meant.{fields_kind, view_meant}
-use Rattle.cgx_format_kinds.specs.declared.View.{View}
 use Rattle.cgx_format_headers.specs.declared.RecordType.TheVariants.{Known as KnownType}
 use Rattle.cgx_format_headers.specs.declared.Headed.TheVariants.{Good}
 use Rattle.cgx_format_headers.specs.Headers.{Heads}

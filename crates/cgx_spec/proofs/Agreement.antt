@@ -7,14 +7,13 @@ use mathlib.Core.Option.{Option, none, some}
 use Prim.Native.Nat.{ℕ, zero, suc, ◌+◌, ◌*◌, ◌%◌, ◌<◌}
 use native.Mathlib.Numerals.{add-one}
 use native.Mathlib.Omega.{arith}
-use lib.Dec.{T, leb, eqb, eqb→eq, eqb_refl, le→leb}
+use lib.Dec.{T, leb, eqb, eqb→eq, le→leb}
 use lib.ListN.{length, get_elem?}
 use Rattle.cgx_spec.specs.declared.Kind.{Kind}
 use Rattle.cgx_spec.specs.declared.Kind.TheVariants.{Library, Struct, Cprpty, Property, Layer, Box, Poly, Wire, Text, Sref, Endlib}
 use Rattle.cgx_spec.specs.declared.Run.{Run}
 use Rattle.cgx_spec.specs.declared.Run.TheVariants.{Of}
 use Rattle.cgx_spec.specs.declared.Context.{Context}
-use Rattle.cgx_spec.specs.declared.Verdict.TheVariants.{Refused as refused}
 use Rattle.cgx_spec.specs.Strings.{text_of, padded, same, good_string}
 use Rattle.cgx_spec.specs.Kinds.{kind_of, type_for, orientation, text_flags, meant, good_flags, flags_of}
 use Rattle.cgx_spec.specs.Order.{start, longer, next}

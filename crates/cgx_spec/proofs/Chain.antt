@@ -18,12 +18,12 @@ use Rattle.cgx_spec.specs.declared.Need.{Need}
 use Rattle.cgx_spec.specs.declared.Need.TheVariants.{LibraryBefore, NoLibraryBefore, OpenCell, LayerInForce, NoneAwaiting, OnlyCprpty}
 use Rattle.cgx_spec.specs.declared.Verdict.TheVariants.{Accepted as accepted, Refused as refused}
 use Rattle.cgx_spec.specs.Numbers.{Bytes}
-use Rattle.cgx_spec.specs.Fields.{good, every, join}
+use Rattle.cgx_spec.specs.Fields.{every, join}
 use Rattle.cgx_spec.specs.Kinds.{kind_of, count}
 use Rattle.cgx_spec.specs.Order.{start, present, awaiting, met, needs_of, allowed, longer, next, OrderFacts, facts_of}
-use Rattle.cgx_spec.specs.Records.{Rec, size, bytes_of, rule, broken, rules, fault_of, Placed, context_after}
-use Rattle.cgx_spec.specs.Files.{Cut, bad, found, cut_body, cut, Step, stop, go, settle, judge, finish, step, Walk, before, walk, header, opening, opened, begin, walk_of, verdict_of, Accepted, records_of}
-use Rattle.cgx_spec.specs.Written.{Sized, GoodFrom, place_all, last}
+use Rattle.cgx_spec.specs.Records.{Rec, size, bytes_of, broken, rules, fault_of, Placed, context_after}
+use Rattle.cgx_spec.specs.Files.{Cut, bad, found, cut_body, cut, Step, stop, go, settle, judge, finish, step, Walk, walk, header, opening, opened, begin, walk_of, verdict_of, Accepted, records_of}
+use Rattle.cgx_spec.specs.Written.{Sized, GoodFrom, place_all}
 use Rattle.cgx_spec.proofs.Lists.{true→T, and_left, and_right, eqb-false, eqb-false→ne, ltb-false, ltb-false→le, or_left_false, or_right_false, Bytes-take, Bytes-drop, Bytes-append, Bytes-cons}
 
 -- ---- cutting

@@ -6,7 +6,7 @@ use Prim.Native.Nat.{ℕ, zero, suc, ◌+◌, ◌*◌, ◌-◌, ◌/◌, ◌%◌
 use native.Mathlib.Omega.{arith}
 use native.Mathlib.Nat.{mul-pos, div-lt_iff_lt-mul, mul-mod_right, mul-div_cancel_left, mul_comm}
 use native.Mathlib.Decide.{dec_le}
-use lib.Dec.{T, leb, ltb, eqb, eqb→eq, le→leb, ltb→lt, eqb_refl}
+use lib.Dec.{T, leb, ltb, eqb, eqb→eq, ltb→lt, eqb_refl}
 use lib.ListN.{length, take, drop, length-drop}
 use lib.Seq.{drop-drop, take_all, length-take-le, take-length}
 use Rattle.cgx_spec.specs.Fields.{Field, real, positive, date, short, longs, string, optional, absent, units, fits, width, Piece, pieces, every, lengths_fit}

@@ -9,14 +9,12 @@ use native.Mathlib.Omega.{arith}
 use lib.ListN.{length, take, get_elem?}
 use Rattle.cgx_spec.specs.declared.Kind.{Kind}
 use Rattle.cgx_spec.specs.declared.Kind.TheVariants.{Library, Struct, Cprpty, Property, Layer, Box, Poly, Wire, Text, Sref, Endlib}
-use Rattle.cgx_spec.specs.declared.Verdict.TheVariants.{Accepted as accepted}
-use Rattle.cgx_spec.specs.Numbers.{Bytes, after}
-use Rattle.cgx_spec.specs.Strings.{same}
-use Rattle.cgx_spec.specs.Fields.{any, good, exactly, normal, join, normal_bytes}
+use Rattle.cgx_spec.specs.Numbers.{Bytes}
+use Rattle.cgx_spec.specs.Fields.{join, normal_bytes}
 use Rattle.cgx_spec.specs.Kinds.{kind_of, layout}
 use Rattle.cgx_spec.specs.Order.{start, OrderFacts, facts_of}
 use Rattle.cgx_spec.specs.Records.{Rec, bytes_of, pieces_of, normal_of, broken, rules}
-use Rattle.cgx_spec.specs.Files.{go, before, header, Accepted, records_of, Known, if_known, known, sequence, meanings, SameMeaning, normals, normal_form}
+use Rattle.cgx_spec.specs.Files.{header, Accepted, records_of, Known, if_known, known, sequence, meanings, SameMeaning, normals, normal_form}
 use Rattle.cgx_spec.specs.Written.{Sized, GoodFrom, Added, last, keep, extra, AddedTo, added}
 use Rattle.cgx_spec.specs.Demands.{Demand3}
 use Rattle.cgx_spec.proofs.Lists.{Bytes-append, Bytes-take}

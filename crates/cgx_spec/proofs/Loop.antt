@@ -7,10 +7,9 @@ use lib.ListN.{length, drop, length-drop}
 use lib.Seq.{drop-drop}
 use Rattle.cgx_spec.specs.declared.Context.{Context}
 use Rattle.cgx_spec.specs.declared.Verdict.{Verdict}
-use Rattle.cgx_spec.specs.Numbers.{after, number}
 use Rattle.cgx_spec.specs.Order.{start}
 use Rattle.cgx_spec.specs.Records.{size, Placed, context_after}
-use Rattle.cgx_spec.specs.Files.{Step, stop, go, step, before, walk, header, opening, opened, begin, walk_of}
+use Rattle.cgx_spec.specs.Files.{Step, stop, go, step, before, walk, header, opening, begin, walk_of}
 use Rattle.cgx_spec.specs.Walking.{walk_from}
 use Rattle.cgx_spec.proofs.Verdicts.{StepNamed, step-named}
 use Rattle.cgx_spec.proofs.Steps.{StepAt, step-at}

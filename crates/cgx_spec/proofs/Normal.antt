@@ -13,7 +13,6 @@ use Rattle.cgx_spec.specs.Numbers.{Bytes}
 use Rattle.cgx_spec.specs.Fields.{any, counts, ordered, closed, Field, real, positive, date, short, longs, string, optional, absent, fits, width, rule_of, passes, good, normal, Piece, pieces, lengths_fit, keeps, values, normal_bytes}
 use Rattle.cgx_spec.specs.Kinds.{kind_of, type_for, text_flags, Flags, meaningless, version, up_to, orientation, flags_for, allows, meant, good_flags, flags_of, layout}
 use Rattle.cgx_spec.specs.Records.{Rec, pieces_of, meaning_of, normal_of, Rule, rule, broken, rules}
-use Rattle.cgx_spec.specs.Files.{known, meanings}
 use Rattle.cgx_spec.proofs.Lists.{T→true, all_below, at_each, every-cons, and_left, and_right}
 use Rattle.cgx_spec.proofs.Pieces.{Fit, fit, normal_piece, pieces-normal, lengths_fit-normal, keeps-normal, values-normal}
 use Rattle.cgx_spec.proofs.Same.{normal-same}

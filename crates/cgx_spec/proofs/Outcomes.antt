@@ -101,12 +101,12 @@ module _ (bs : List RecordBefore) (a s fl : ℕ) (more : List ℕ) where
     of-known k =
         subst (λ (o : Option Kind). Outcome P rule_checks (broken (rules (allowed (look_back bs) (kind_of t)) o r))) (sym (agreement.types k))
         (chain P in_order (allowed (look_back bs) (kind_of t)) (flags_good ∷ body_length ∷ dates_good ∷ numbers_good ∷ strings_good ∷ poly_closed ∷ []) _ (order-iff bs t) (λ p₆.
-            chain P flags_good (good_flags k fl) (body_length ∷ dates_good ∷ numbers_good ∷ strings_good ∷ poly_closed ∷ []) _ (Iff.trans (flags-iff k fl w.flags-byte) (of-kind k (λ l. fl ≤ highest_flags l))) (λ p₇.
-            chain P body_length (lengths_fit ps) (dates_good ∷ numbers_good ∷ strings_good ∷ poly_closed ∷ []) _ (Iff.trans (length-iff k r n w.long w.even w.small) (of-kind k (λ l. good_size l fl n ≡ true))) (λ p₈.
-            chain P dates_good (keeps 9 ps) (numbers_good ∷ strings_good ∷ poly_closed ∷ []) _ (asked k DatesGood (dates-iff a s t fl body k)) (λ p₉.
-            chain P numbers_good (keeps 10 ps) (strings_good ∷ poly_closed ∷ []) _ (asked k NumbersGood (numbers-iff a s t fl body k w.long (p₈ k refl))) (λ p₁₀.
-            chain P strings_good (keeps 11 ps) (poly_closed ∷ []) _ (asked k StringsGood (strings-iff a s t fl body k w.long)) (λ p₁₁.
-            chain P poly_closed (keeps 12 ps) [] [] (asked k PolygonsGood (polygons-iff a s t fl body k w.long (p₈ k refl))) (λ p₁₂. no_more P))))))))
+        chain P flags_good (good_flags k fl) (body_length ∷ dates_good ∷ numbers_good ∷ strings_good ∷ poly_closed ∷ []) _ (Iff.trans (flags-iff k fl w.flags-byte) (of-kind k (λ l. fl ≤ highest_flags l))) (λ p₇.
+        chain P body_length (lengths_fit ps) (dates_good ∷ numbers_good ∷ strings_good ∷ poly_closed ∷ []) _ (Iff.trans (length-iff k r n w.long w.even w.small) (of-kind k (λ l. good_size l fl n ≡ true))) (λ p₈.
+        chain P dates_good (keeps 9 ps) (numbers_good ∷ strings_good ∷ poly_closed ∷ []) _ (asked k DatesGood (dates-iff a s t fl body k)) (λ p₉.
+        chain P numbers_good (keeps 10 ps) (strings_good ∷ poly_closed ∷ []) _ (asked k NumbersGood (numbers-iff a s t fl body k w.long (p₈ k refl))) (λ p₁₀.
+        chain P strings_good (keeps 11 ps) (poly_closed ∷ []) _ (asked k StringsGood (strings-iff a s t fl body k w.long)) (λ p₁₁.
+        chain P poly_closed (keeps 12 ps) [] [] (asked k PolygonsGood (polygons-iff a s t fl body k w.long (p₈ k refl))) (λ p₁₂. no_more P))))))))
       where
         t : ℕ
         t = type_byte k
@@ -128,7 +128,7 @@ module _ (bs : List RecordBefore) (a s fl : ℕ) (more : List ℕ) where
     of_none t h =
         subst (λ (o : Option Kind). Outcome P rule_checks (broken (rules (allowed (look_back bs) (kind_of t)) o (rec_from t)))) (sym (unknown-kind t h))
         (chain P in_order (allowed (look_back bs) (kind_of t)) (flags_good ∷ body_length ∷ dates_good ∷ numbers_good ∷ strings_good ∷ poly_closed ∷ []) [] (order-iff bs t)
-            (λ p. (of-unknown t _ h, (of-unknown t _ h, (of-unknown t _ h, (of-unknown t _ h, (of-unknown t _ h, (of-unknown t _ h, tt))))))))
+        (λ p. (of-unknown t _ h, (of-unknown t _ h, (of-unknown t _ h, (of-unknown t _ h, (of-unknown t _ h, (of-unknown t _ h, tt))))))))
       where
         P : Check → Type 0
         P = Passes bs (bytes t)

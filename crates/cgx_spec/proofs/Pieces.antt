@@ -10,7 +10,6 @@ use lib.ListN.{length, take, drop, length-append, take-append-drop}
 use lib.Seq.{length-take-le, take_at, drop_at}
 use Rattle.cgx_spec.specs.Numbers.{Bytes}
 use Rattle.cgx_spec.specs.Fields.{Field, real, positive, date, short, longs, string, optional, absent, units, fits, width, rule_of, good, exactly, value, normal, Piece, pieces, lengths_fit, keeps, values, normal_bytes}
-use Rattle.cgx_spec.specs.Files.{cut}
 use Rattle.cgx_spec.proofs.RealLaws.{normal_real-length, normal_real-bytes, normal_real-value, normal_real-positive}
 use Rattle.cgx_spec.proofs.Lists.{true→T, units-is, every-cons, Bytes-take, Bytes-drop, Bytes-append}
 

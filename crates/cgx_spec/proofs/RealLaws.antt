@@ -12,7 +12,7 @@ use lib.Signed.{lt_z}
 use lib.Dec.{T, ltb, leb, eqb}
 use lib.ListN.{length}
 use Rattle.cgx_spec.specs.Numbers.{number, digits, Bytes}
-use Rattle.cgx_spec.proofs.NumberLaws.{length_digits, digits-bytes, number_digits}
+use Rattle.cgx_spec.proofs.NumberLaws.{digits-bytes, number_digits}
 use Rattle.cgx_spec.specs.Reals.{negative, exponent, mantissa, pack, signed, value, positive, lower, minus, normal, IsNormal, real_of, positive_real, normal_real}
 
 -- ---- the parts

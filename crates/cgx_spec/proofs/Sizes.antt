@@ -13,7 +13,6 @@ use Rattle.cgx_spec.specs.declared.Kind.TheVariants.{Library, Struct, Cprpty, Pr
 use Rattle.cgx_spec.specs.Fields.{Test, any, ordered, closed, Field, real, positive, date, short, longs, string, optional, absent, units, fits, width, pieces, lengths_fit}
 use Rattle.cgx_spec.specs.Kinds.{layout}
 use Rattle.cgx_spec.specs.Records.{Rec, size, pieces_of}
-use Rattle.cgx_spec.specs.Files.{go, before}
 use Rattle.cgx_spec.specs.Restated.{has_angle, has_magnif, has_array, name_at, repeated, good_size, scales_at, counts_at}
 use Rattle.cgx_spec.proofs.Lists.{T→true, true→T, ¬T→false, false→¬T, eq→eqb, bool-ext, and-true, and_assoc, and_left, and_right, and_both, units-is, to-units}
 

@@ -18,13 +18,11 @@ use Rattle.cgx_spec.specs.declared.Context.{Context}
 use Rattle.cgx_spec.specs.declared.Place.{Place}
 use Rattle.cgx_spec.specs.declared.Verdict.{Verdict}
 use Rattle.cgx_spec.specs.declared.Verdict.TheVariants.{Accepted as accepted, Refused as refused}
-use Rattle.cgx_spec.specs.Dates.{within}
 use Rattle.cgx_spec.specs.Kinds.{kind_of, count}
 use Rattle.cgx_spec.specs.Order.{start, longer, next}
 use Rattle.cgx_spec.specs.Records.{Rec, size, Meaning, meaning_of, fault_of, Placed, context_after, view_of, view_meaning}
 use Rattle.cgx_spec.specs.Files.{Cut, bad, found, cut_body, cut, Step, stop, go, settle, judge, finish, step, Walk, walk, header, opening, begin, walk_of, verdict_of, records_of, if_known, known, sequence, meanings, if_seen, views, views_of}
 use Rattle.cgx_spec.specs.Walking.{first_place, place_after, offset_up_to, run_up_to, forged, seen, refused_at, ending, answer, step_of, Reads, and_then, reads}
-use Rattle.cgx_spec.specs.Written.{last}
 use Rattle.cgx_spec.specs.Demands.{Reading}
 use Rattle.cgx_spec.proofs.Lists.{T→true, and_left, and_right, and_both, eq→eqb, eqb-false→ne, ltb-false→le, or_left_false, or_right_false}
 use Rattle.cgx_spec.proofs.Chain.{file-sound, file-places}

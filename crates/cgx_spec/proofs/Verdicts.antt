@@ -13,7 +13,6 @@ use Rattle.cgx_spec.specs.declared.Offset.TheVariants.{Nowhere}
 use Rattle.cgx_spec.specs.declared.Place.{Place}
 use Rattle.cgx_spec.specs.declared.Verdict.{Verdict}
 use Rattle.cgx_spec.specs.declared.Verdict.TheVariants.{Accepted as accepted, Refused as refused}
-use Rattle.cgx_spec.specs.Numbers.{number}
 use Rattle.cgx_spec.specs.Kinds.{kind_of}
 use Rattle.cgx_spec.specs.Order.{start, allowed}
 use Rattle.cgx_spec.specs.Records.{Rec, size, Rule, broken, rules, fault_of, context_after, view_of}

@@ -23,7 +23,7 @@ use Rattle.buffers.specs.Put.{longs_bytes}
 use Rattle.buffers.proofs.Puts.{length-longs}
 use Rattle.buffers.proofs.Padding.{length-padded}
 use Rattle.cgx_format_fields.specs.Zeros.{no_zero}
-use Rattle.cgx_write_given.specs.Given.{Item, day, means, date_bytes, stored, alike, meets, good_list, good_item, keeping}
+use Rattle.cgx_write_given.specs.Given.{Item, means, date_bytes, stored, alike, meets, good_list, good_item, keeping}
 use Rattle.cgx_write_given.specs.Typed.{Longs, IsDate, Typed, a_real, a_scale, a_date, a_short, a_list, a_text, a_name, no_name, not_there}
 
 -- ---- lists of longs

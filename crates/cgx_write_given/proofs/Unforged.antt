@@ -5,13 +5,12 @@ use Prim.Native.Nat.{ℕ, ◌+◌, ◌%◌, ◌≤◌, ◌<◌}
 use native.Mathlib.Omega.{arith}
 use Rattle.cgx_spec.specs.declared.Kind.{Kind}
 use Rattle.cgx_spec.specs.declared.Context.{Context}
-use Rattle.cgx_spec.specs.declared.Place.{Place}
 use Rattle.cgx_spec.specs.Kinds.{kind_of}
 use Rattle.cgx_spec.specs.Order.{next}
 use Rattle.cgx_spec.specs.Records.{size, context_after}
 use Rattle.cgx_spec.specs.Walking.{place_after}
 use Rattle.cgx_spec.proofs.Steps.{Unforged, within-next}
-use Rattle.cgx_format_cursor.specs.Cursors.{context_in, place_in, state_of, cursor_of}
+use Rattle.cgx_format_cursor.specs.Cursors.{place_in, state_of, cursor_of}
 use Rattle.cgx_format_cursor.proofs.Laws.{next-in}
 use Rattle.cgx_write_given.specs.declared.Writer.{Writer}
 use Rattle.cgx_write_given.specs.Given.{Given, written}

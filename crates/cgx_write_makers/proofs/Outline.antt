@@ -12,13 +12,12 @@ use Rattle.cgx_spec.specs.Records.{size, bytes_of}
 use Rattle.buffers.specs.Put.{put}
 use Rattle.cgx_format_kinds.specs.declared.Point.{Point}
 use Rattle.cgx_write_given.specs.declared.Writer.{Writer}
-use Rattle.cgx_write_given.specs.declared.Answer.{Answer}
 use Rattle.cgx_write_given.specs.Given.{Given, written}
 use Rattle.cgx_write_given.specs.Writing.{offset_of, writer_after}
 use Rattle.cgx_write_given.proofs.Sizes.{layer-size, wire-size, label-size}
 use Rattle.cgx_write_given.proofs.Unforged.{after_is}
 use Rattle.cgx_write_plans.proofs.Order.{call_fits}
-use Rattle.cgx_write_makers.specs.Makers.{corners, card_layer, card_style, card_wire, outline, caption, frame_calls}
+use Rattle.cgx_write_makers.specs.Makers.{corners, card_layer, card_style, card_wire, outline, caption}
 use Rattle.cgx_write_makers.specs.Planned.{all_planned, all_stored}
 use Rattle.cgx_write_makers.proofs.Turns.{plan-good}
 

@@ -1,10 +1,9 @@
 -- `buffers::put_each` is right: at each turn, storing what is left of the source gives what the whole store is to give. Assumes nothing.
-use borrow.Author.Rules.{rules}
-use mathlib.Core.Path.{◌≡◌, refl, sym, ap, ◌∙◌}
-use Prim.Native.Nat.{ℕ, ◌+◌, ◌-◌, ◌≤◌, ◌<◌}
+use mathlib.Core.Path.{refl, sym, ap, ◌∙◌}
+use Prim.Native.Nat.{ℕ, ◌<◌}
 use native.Mathlib.Nat.{add-zero}
 use native.Mathlib.Omega.{arith}
-use lib.ListN.{length, drop, length-set}
+use lib.ListN.{length, length-set}
 use Rattle.buffers.specs.Put.{put}
 use Rattle.buffers.proofs.Puts.{put_copy, put-end}
 use Rattle.buffers.proofs.put_each.Goals as goal

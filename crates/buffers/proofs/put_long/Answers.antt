@@ -4,7 +4,6 @@ use mir.Syntax.{w32}
 use Rattle.cgx_spec.specs.Numbers.{long_bytes}
 use Rattle.numbers.proofs.Signed.{back}
 use Rattle.buffers.specs.Put.{put}
-use borrow.Author.Rules.{rules}
 use Rattle.buffers.proofs.put_long.Goals as goal
 
 pub returns : goal.returns

@@ -1,7 +1,7 @@
 -- `buffers::put_longs` is right: at each turn, storing what is left of the longs gives what the whole store is to give. Assumes nothing.
 use mathlib.Core.Path.{◌≡◌, refl, sym, ap, ◌∙◌}
 use mathlib.Core.List.{List}
-use Prim.Native.Nat.{ℕ, ◌+◌, ◌*◌, ◌-◌, ◌≤◌, ◌<◌}
+use Prim.Native.Nat.{ℕ, ◌+◌, ◌*◌, ◌<◌}
 use native.Mathlib.Omega.{arith}
 use lib.IntN.{ℤ, pos}
 use lib.ListN.{length, drop, get_or}
@@ -10,7 +10,6 @@ use Rattle.cgx_spec.specs.Numbers.{long_bytes}
 use Rattle.numbers.proofs.Signed.{back}
 use Rattle.buffers.specs.Put.{put, longs_bytes}
 use Rattle.buffers.proofs.Puts.{put-long-next, put-longs-end, put-length}
-use borrow.Author.Rules.{rules}
 use Rattle.buffers.proofs.put_longs.Goals as goal
 
 pub loop-i-init : goal.loop-i-init

@@ -4,7 +4,6 @@ use mir.Syntax.{w16}
 use Rattle.cgx_spec.specs.Numbers.{short_bytes}
 use Rattle.numbers.proofs.Signed.{back}
 use Rattle.buffers.specs.Put.{put}
-use borrow.Author.Rules.{rules}
 use Rattle.buffers.proofs.put_short.Goals as goal
 
 pub returns : goal.returns

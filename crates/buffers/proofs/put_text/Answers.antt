@@ -4,7 +4,6 @@ use native.Mathlib.Omega.{arith}
 use lib.ListN.{length, length-set}
 use Rattle.buffers.proofs.Puts.{put-length}
 use Rattle.buffers.proofs.Padding.{length-padded, pad-both}
-use borrow.Author.Rules.{rules}
 use Rattle.buffers.proofs.put_text.Goals as goal
 
 pub put_bytes-requires : goal.put_bytes-requires

@@ -1,7 +1,6 @@
 -- `buffers::put_word` is right: it stores the bytes that `word_bytes` makes. Assumes nothing.
 use mathlib.Core.Path.{ap, ◌∙◌}
 use Rattle.buffers.specs.Put.{put}
-use borrow.Author.Rules.{rules}
 use Rattle.buffers.proofs.put_word.Goals as goal
 
 pub returns : goal.returns

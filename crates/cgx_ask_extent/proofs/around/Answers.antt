@@ -1,9 +1,8 @@
 -- The invariant: what is left of the points widens the rectangle so far to the whole.
-use mathlib.Core.Path.{◌≡◌, refl, ap, ◌∙◌}
-use Prim.Native.Nat.{◌-◌, ◌≤◌}
+use mathlib.Core.Path.{refl, ap, ◌∙◌}
 use native.Mathlib.Omega.{arith}
-use Rattle.cgx_ask_extent.specs.Extent.{wider, widest}
-use Rattle.cgx_ask_extent.proofs.Hulls.{points_at, point-is, widest-on, widest-done}
+use Rattle.cgx_ask_extent.specs.Extent.{wider}
+use Rattle.cgx_ask_extent.proofs.Hulls.{point-is, widest-on, widest-done}
 use Rattle.cgx_ask_extent.proofs.around.Goals as goal
 
 pub loop-at-init : goal.loop-at-init

@@ -1,9 +1,8 @@
 -- The invariant: what is left of the points widens the rectangle so far to the whole.
-use mathlib.Core.Path.{◌≡◌, refl, ap, ◌∙◌}
+use mathlib.Core.Path.{◌≡◌}
 use Prim.Native.Nat.{◌-◌, ◌≤◌}
-use native.Mathlib.Omega.{arith}
-use Rattle.cgx_ask_extent.specs.Extent.{wider, widest}
-use Rattle.cgx_ask_extent.proofs.Hulls.{points_at, point-is, widest-on, widest-done}
+use Rattle.cgx_ask_extent.specs.Extent.{widest}
+use Rattle.cgx_ask_extent.proofs.Hulls.{points_at}
 use Rattle.cgx_ask_extent.proofs.around.Given as goal
 
 abbrev pub invariant-loop-at : goal.invariant-loop-at

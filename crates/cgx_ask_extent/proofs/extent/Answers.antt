@@ -2,7 +2,6 @@
 use mathlib.Core.Path.{sym, ◌∙◌}
 use Rattle.cgx_spec.specs.Files.{Accepted}
 use Rattle.cgx_ask_extent.proofs.Cells.{extent-refused, extent-none, begins, extent-of}
-use borrow.Author.Rules.{rules}
 use Rattle.cgx_ask_extent.proofs.extent.Goals as goal
 
 pub cell_start-cell-requires : goal.cell_start-cell-requires

@@ -1,7 +1,6 @@
 -- Nothing grows from the first point on.
 use native.Mathlib.Omega.{arith}
 use Rattle.cgx_ask_extent.proofs.Hulls.{only-is, no-points, first-points, more-points}
-use borrow.Author.Rules.{rules}
 use Rattle.cgx_ask_extent.proofs.grown.Goals as goal
 
 pub returns-then-b-from : goal.returns-then-b-from

@@ -2,7 +2,6 @@
 use mir.Syntax.{w32}
 use Rattle.cgx_ask_extent.specs.Extent.{min_z, max_z, wider}
 use Rattle.cgx_ask_extent.proofs.Hulls.{side-is, sides-are}
-use borrow.Author.Rules.{rules}
 use Rattle.cgx_ask_extent.proofs.wider.Goals as goal
 
 pub returns : goal.returns

@@ -1,6 +1,5 @@
 -- No size, no LAYER.
 use Rattle.cgx_ask_layer_name.proofs.Layers.{answer-16, answer-0}
-use borrow.Author.Rules.{rules}
 use Rattle.cgx_ask_layer_name.proofs.layer_at.Goals as goal
 
 pub returns-then-size-eq0 : goal.returns-then-size-eq0

@@ -1,7 +1,6 @@
 -- The part that `layer_name_at` tells, cut from its text.
 use native.Mathlib.Omega.{arith}
 use Rattle.cgx_ask_layer_name.proofs.Layers.{in-file, of_none, of-file, of-substitute}
-use borrow.Author.Rules.{rules}
 use Rattle.cgx_ask_layer_name.proofs.layer_name.Goals as goal
 
 pub overflow_add-end : goal.overflow_add-end

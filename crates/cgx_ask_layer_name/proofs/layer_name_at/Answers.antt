@@ -1,6 +1,5 @@
 -- By the size of the LAYER, 0 where there is none, and by its name as it is read.
 use Rattle.cgx_ask_layer_name.proofs.Layers.{one-there, none-shown, layer-room, layer-named, absent-shown, empty-name-shown, present-shown}
-use borrow.Author.Rules.{rules}
 use Rattle.cgx_ask_layer_name.proofs.layer_name_at.Goals as goal
 
 pub returns-then-size-eq0 : goal.returns-then-size-eq0

@@ -1,10 +1,8 @@
 -- The tests of `good_layer` in its order; the rules 9, 10 and 12 have nothing to say of a LAYER.
 use native.Mathlib.Omega.{arith}
-use borrow.Author.Tests.{not-true, not-false}
 use Rattle.cgx_format_headers.proofs.Heads.{header-in}
 use Rattle.cgx_read_steps.proofs.Steps.{held-body}
 use Rattle.cgx_ask_layer_name.proofs.Layers.{low, odd, beyond, no_record, other-type, faulty, present-good}
-use borrow.Author.Rules.{rules}
 use Rattle.cgx_ask_layer_name.proofs.layer_size.Goals as goal
 
 pub returns-then-at-lt4 : goal.returns-then-at-lt4

@@ -2,7 +2,6 @@
 use mathlib.Core.Path.{◌∙◌}
 use native.Mathlib.Omega.{arith}
 use Rattle.cgx_ask_listing.proofs.Rests.{not-begun, refusal-short, too_large, small-enough, listed}
-use borrow.Author.Rules.{rules}
 use Rattle.cgx_ask_listing.proofs.listing.Goals as goal
 
 pub returns-then-file-gt-LIMIT : goal.returns-then-file-gt-LIMIT

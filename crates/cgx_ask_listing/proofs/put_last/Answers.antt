@@ -1,7 +1,6 @@
 -- By the verdict. Assumes nothing.
 use Rattle.cgx_ask_listing.specs.Listing.{last_line}
 use Rattle.cgx_ask_listing.proofs.Lines.{last-room, last_stored}
-use borrow.Author.Rules.{rules}
 use Rattle.cgx_ask_listing.proofs.put_last.Goals as goal
 
 pub put_word-requires : goal.put_word-requires

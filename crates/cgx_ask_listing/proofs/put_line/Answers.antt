@@ -1,7 +1,6 @@
 -- The offset, and the name after it. Assumes nothing.
 use Rattle.cgx_ask_listing.specs.Listing.{decimal, name_end, line}
 use Rattle.cgx_ask_listing.proofs.Lines.{both, room-left, room-first}
-use borrow.Author.Rules.{rules}
 use Rattle.cgx_ask_listing.proofs.put_line.Goals as goal
 
 pub put_decimal-to-requires : goal.put_decimal-to-requires

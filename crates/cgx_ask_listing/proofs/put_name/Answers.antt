@@ -1,5 +1,4 @@
 -- By the kind: the word is the kind's own name between a space and a newline.
-use borrow.Author.Rules.{rules}
 use Rattle.cgx_ask_listing.proofs.Lines.{name-room, name-stored}
 use Rattle.cgx_ask_listing.proofs.put_name.Goals as goal
 

@@ -3,7 +3,6 @@ use mathlib.Core.Path.{ap}
 use native.Mathlib.Omega.{arith}
 use Rattle.cgx_format_headers.specs.Headers.{kind_in}
 use Rattle.cgx_ask_listing.proofs.Lines.{stored-none, if-room, if-stored}
-use borrow.Author.Rules.{rules}
 use Rattle.cgx_ask_listing.proofs.put_record.Goals as goal
 
 pub put_line-requires : goal.put_line-requires

@@ -3,7 +3,6 @@ use mathlib.Core.List.{◌++◌}
 use Rattle.cgx_ask_listing.specs.Ascii.{ascii}
 use Rattle.cgx_ask_listing.specs.Listing.{decimal, last_line}
 use Rattle.cgx_ask_listing.proofs.Lines.{both, room-left, room-first}
-use borrow.Author.Rules.{rules}
 use Rattle.cgx_ask_listing.proofs.put_refusal.Goals as goal
 
 pub put_word-a-requires : goal.put_word-a-requires

@@ -1,6 +1,5 @@
 -- By cases.
 use mathlib.Core.Path.{refl}
-use borrow.Author.Rules.{rules}
 use Rattle.cgx_c_answers.proofs.tell_length.Goals as goal
 
 pub returns-in-Accepted : goal.returns-in-Accepted

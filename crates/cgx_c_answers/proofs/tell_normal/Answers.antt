@@ -1,6 +1,5 @@
 -- By cases.
 use mathlib.Core.Path.{refl}
-use borrow.Author.Rules.{rules}
 use Rattle.cgx_c_answers.proofs.tell_normal.Goals as goal
 
 pub returns-in-Length : goal.returns-in-Length

@@ -1,6 +1,5 @@
 -- By the kind.
 use Rattle.cgx_c_fields.proofs.Fills.{told-if, none_filled}
-use borrow.Author.Rules.{rules}
 use Rattle.cgx_c_fields.proofs.fill_fields.Goals as goal
 
 pub returns-in-Library : goal.returns-in-Library

@@ -5,7 +5,6 @@ use Rattle.cgx_format_kinds.specs.declared.Fields.TheVariants as fields
 use Rattle.cgx_read_fields.proofs.Ready.{poly-ready}
 use Rattle.cgx_c_views.specs.ViewWords.{field_words}
 use Rattle.cgx_c_fields.proofs.Fills.{filled, unfilled, readable, filled-if}
-use borrow.Author.Rules.{rules}
 use Rattle.cgx_c_fields.proofs.fill_poly.Goals as goal
 
 pub returns-then-fault-ne0 : goal.returns-then-fault-ne0

@@ -2,7 +2,6 @@
 use Rattle.cgx_spec.specs.declared.Kind.TheVariants as kinds
 use Rattle.cgx_read_fields.proofs.Srefs.{sref-ready}
 use Rattle.cgx_c_fields.proofs.Fills.{unfilled, readable, filled-if}
-use borrow.Author.Rules.{rules}
 use Rattle.cgx_c_fields.proofs.fill_sref.Goals as goal
 
 pub returns-then-fault-ne0 : goal.returns-then-fault-ne0

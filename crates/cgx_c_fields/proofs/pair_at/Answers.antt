@@ -2,7 +2,6 @@
 use mathlib.Core.Path.{◌∙◌}
 use native.Mathlib.Omega.{arith}
 use Rattle.cgx_c_fields.proofs.Pairs.{pair_is}
-use borrow.Author.Rules.{rules}
 use Rattle.cgx_c_fields.proofs.pair_at.Goals as goal
 
 pub returns : goal.returns

@@ -1,5 +1,4 @@
 -- By cases.
-use borrow.Author.Rules.{rules}
 use Rattle.cgx_c_fields.proofs.pair_if.Goals as goal
 
 pub pair_at-requires : goal.pair_at-requires

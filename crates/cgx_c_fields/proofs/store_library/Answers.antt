@@ -1,6 +1,5 @@
 -- What is read is stored (`Fills`).
 use Rattle.cgx_c_fields.proofs.Fills.{library-filled}
-use borrow.Author.Rules.{rules}
 use Rattle.cgx_c_fields.proofs.store_library.Goals as goal
 
 pub returns : goal.returns

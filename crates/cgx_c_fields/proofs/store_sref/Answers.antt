@@ -2,7 +2,6 @@
 use native.Mathlib.Omega.{arith}
 use Rattle.cgx_read_fields.proofs.Srefs.{sref-room}
 use Rattle.cgx_c_fields.proofs.Fills.{sref-filled}
-use borrow.Author.Rules.{rules}
 use Rattle.cgx_c_fields.proofs.store_sref.Goals as goal
 
 pub overflow_add-at : goal.overflow_add-at

@@ -1,10 +1,8 @@
 -- What is read is stored (`Fills`).
 use mathlib.Core.Path.{◌∙◌}
-use native.Mathlib.Omega.{arith}
 use mir.Syntax.{w32}
 use Rattle.numbers.proofs.Signed.{back}
 use Rattle.cgx_c_fields.proofs.Fills.{text-filled}
-use borrow.Author.Rules.{rules}
 use Rattle.cgx_c_fields.proofs.store_text.Goals as goal
 
 pub returns : goal.returns

@@ -1,7 +1,5 @@
 -- The rules in their order, and then what is stored (`Steps`).
-use borrow.Author.Tests.{not-true, not-false}
 use Rattle.cgx_c_step.proofs.Steps.{not-allowed, bad-flags, bad-body, record-lent}
-use borrow.Author.Rules.{rules}
 use Rattle.cgx_c_step.proofs.record_over.Goals as goal
 
 pub returns-then-not-allows : goal.returns-then-not-allows

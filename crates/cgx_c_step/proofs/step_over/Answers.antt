@@ -1,7 +1,6 @@
 -- By what the step comes to (`Steps`).
 use Rattle.cgx_read_walk.proofs.Answers.{sought-known}
 use Rattle.cgx_c_step.proofs.Steps.{lent-forged, lent-ended, lent-broken, lent-record}
-use borrow.Author.Rules.{rules}
 use Rattle.cgx_c_step.proofs.step_over.Goals as goal
 
 pub record_over-fault-requires : goal.record_over-fault-requires

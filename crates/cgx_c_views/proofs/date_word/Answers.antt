@@ -4,7 +4,6 @@ use mathlib.Core.Path.{◌≡◌, ap, ◌∙◌}
 use mir.Syntax.{w16}
 use Rattle.numbers.proofs.Signed.{back}
 use Rattle.cgx_c_views.specs.ViewWords.{short_bits, date_word}
-use borrow.Author.Rules.{rules}
 use Rattle.cgx_c_views.proofs.date_word.Goals as goal
 
 pub returns : goal.returns

@@ -4,7 +4,6 @@ use native.Mathlib.Omega.{arith}
 use mir.Syntax.{w16}
 use Rattle.numbers.proofs.Signed.{back}
 use Rattle.cgx_c_views.specs.ViewWords.{short_bits, layer_word}
-use borrow.Author.Rules.{rules}
 use Rattle.cgx_c_views.proofs.layer_word.Goals as goal
 
 pub returns : goal.returns

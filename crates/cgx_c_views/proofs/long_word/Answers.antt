@@ -4,7 +4,6 @@ use native.Mathlib.Omega.{arith}
 use mir.Syntax.{w32}
 use Rattle.numbers.proofs.Signed.{back}
 use Rattle.cgx_c_views.specs.ViewWords.{long_bits}
-use borrow.Author.Rules.{rules}
 use Rattle.cgx_c_views.proofs.long_word.Goals as goal
 
 pub returns : goal.returns

@@ -1,6 +1,5 @@
 -- Six stores.
 use Rattle.cgx_c_views.proofs.Stored.{head-stored}
-use borrow.Author.Rules.{rules}
 use Rattle.cgx_c_views.proofs.put_head.Goals as goal
 
 pub returns : goal.returns

@@ -6,7 +6,6 @@ use Rattle.numbers.proofs.Signed.{back}
 use Rattle.buffers.specs.Put.{put}
 use Rattle.cgx_c_views.specs.ViewWords.{layer_word, layer_words, span_words}
 use Rattle.cgx_c_views.proofs.Stored.{one_more}
-use borrow.Author.Rules.{rules}
 use Rattle.cgx_c_views.proofs.put_layer.Goals as goal
 
 pub returns-in-Absent : goal.returns-in-Absent

@@ -1,7 +1,6 @@
 -- Its fields in turn.
 use Rattle.cgx_c_views.specs.ViewWords.{date_word, span_words}
 use Rattle.cgx_c_views.proofs.Stored.{library-stored}
-use borrow.Author.Rules.{rules}
 use Rattle.cgx_c_views.proofs.put_library.Goals as goal
 
 pub returns : goal.returns

@@ -1,7 +1,6 @@
 -- Its fields in turn.
 use Rattle.cgx_c_views.specs.ViewWords.{span_words}
 use Rattle.cgx_c_views.proofs.Stored.{sref-stored}
-use borrow.Author.Rules.{rules}
 use Rattle.cgx_c_views.proofs.put_sref.Goals as goal
 
 pub returns : goal.returns

@@ -1,7 +1,6 @@
 -- Its fields in turn.
 use Rattle.cgx_c_views.specs.ViewWords.{date_word, span_words}
 use Rattle.cgx_c_views.proofs.Stored.{two-more}
-use borrow.Author.Rules.{rules}
 use Rattle.cgx_c_views.proofs.put_struct.Goals as goal
 
 pub returns : goal.returns

@@ -4,7 +4,6 @@ use mir.Syntax.{w32}
 use Rattle.numbers.proofs.Signed.{back}
 use Rattle.cgx_c_views.specs.ViewWords.{long_bits, list_words}
 use Rattle.cgx_c_views.proofs.Stored.{one_more}
-use borrow.Author.Rules.{rules}
 use Rattle.cgx_c_views.proofs.put_wire.Goals as goal
 
 pub returns : goal.returns

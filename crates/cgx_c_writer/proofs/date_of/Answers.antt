@@ -3,7 +3,6 @@ use mathlib.Core.Path.{◌∙◌}
 use mir.Syntax.{w16}
 use Rattle.numbers.proofs.Signed.{back}
 use lib.ListN.{get_or}
-use borrow.Author.Rules.{rules}
 use Rattle.cgx_c_writer.proofs.date_of.Goals as goal
 
 pub returns : goal.returns

@@ -2,7 +2,6 @@
 use mathlib.Core.Path.{◌∙◌}
 use mir.Syntax.{w32}
 use Rattle.numbers.proofs.Signed.{back}
-use borrow.Author.Rules.{rules}
 use Rattle.cgx_c_writer.proofs.grid_of.Goals as goal
 
 pub returns : goal.returns

@@ -3,7 +3,6 @@ use mathlib.Core.Path.{◌∙◌}
 use mir.Syntax.{w32}
 use Rattle.numbers.proofs.Signed.{back}
 use Rattle.cgx_c_writer.specs.Parts.{low_long}
-use borrow.Author.Rules.{rules}
 use Rattle.cgx_c_writer.proofs.low_long.Goals as goal
 
 pub returns : goal.returns

@@ -1,5 +1,4 @@
 -- Member by member.
-use borrow.Author.Rules.{rules}
 use Rattle.cgx_c_writer.proofs.placement_of.Goals as goal
 
 pub returns : goal.returns

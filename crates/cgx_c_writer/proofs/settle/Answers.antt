@@ -1,7 +1,6 @@
 -- By the number.
 use mathlib.Core.Path.{refl, sym, ◌∙◌}
 use Rattle.cgx_c_writer.proofs.Lent.{taken, refused}
-use borrow.Author.Rules.{rules}
 use Rattle.cgx_c_writer.proofs.settle.Goals as goal
 
 pub returns-then-answer-ne0 : goal.returns-then-answer-ne0

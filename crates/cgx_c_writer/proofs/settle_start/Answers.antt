@@ -3,7 +3,6 @@ use mathlib.Core.Path.{refl, sym, ap, ◌∙◌}
 use Rattle.cgx_c_places.specs.Words.{cursor_words}
 use Rattle.cgx_write_given.specs.declared.Writer.{Writer}
 use Rattle.cgx_c_writer.proofs.Lent.{started, not-started}
-use borrow.Author.Rules.{rules}
 use Rattle.cgx_c_writer.proofs.settle_start.Goals as goal
 
 pub returns-then-number-eq0 : goal.returns-then-number-eq0

@@ -1,7 +1,6 @@
 -- No field: the body is empty.
 use mathlib.Core.Path.{refl}
 use native.Mathlib.Omega.{arith}
-use borrow.Author.Rules.{rules}
 use Rattle.cgx_spec.specs.declared.Kind.TheVariants.{Endlib}
 use Rattle.cgx_format_bodies.proofs.Faults.{fault-8, fault-on}
 use mathlib.Core.Bool.{true}

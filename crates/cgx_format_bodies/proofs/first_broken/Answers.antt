@@ -1,5 +1,4 @@
 -- By cases on the four tests, in order.
-use borrow.Author.Tests.{not-true, not-false}
 use Rattle.cgx_spec.specs.Records.{broken}
 use Rattle.cgx_format_bodies.proofs.first_broken.Goals as goal
 

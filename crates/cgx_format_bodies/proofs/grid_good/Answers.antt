@@ -1,7 +1,6 @@
 -- Asked only where the fields are present.
 use native.Mathlib.Omega.{arith}
 use Rattle.cgx_format_bodies.proofs.Srefs.{grid-yes}
-use borrow.Author.Rules.{rules}
 use Rattle.cgx_format_bodies.proofs.grid_good.Goals as goal
 
 pub overflow_add-middle : goal.overflow_add-middle

@@ -1,7 +1,6 @@
 -- Asked only where the field is present.
 use native.Mathlib.Omega.{arith}
 use Rattle.cgx_format_bodies.proofs.Srefs.{magnif-yes}
-use borrow.Author.Rules.{rules}
 use Rattle.cgx_format_bodies.proofs.magnif_good.Goals as goal
 
 pub overflow_add-end : goal.overflow_add-end

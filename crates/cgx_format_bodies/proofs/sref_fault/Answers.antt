@@ -1,7 +1,6 @@
 -- The offsets are those of the layout (`Srefs`).
 use native.Mathlib.Omega.{arith}
 use Rattle.cgx_format_bodies.proofs.Srefs.{sref-8, sref-on}
-use borrow.Author.Rules.{rules}
 use Rattle.cgx_format_bodies.proofs.sref_fault.Goals as goal
 
 pub returns-then-b-name_at : goal.returns-then-b-name_at

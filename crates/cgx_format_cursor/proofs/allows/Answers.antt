@@ -1,7 +1,6 @@
 -- The table is that of `needs_of` (`Laws`).
 use mathlib.Core.Path.{◌∙◌}
 use Rattle.cgx_format_cursor.proofs.Laws.{met-is}
-use borrow.Author.Rules.{rules}
 use Rattle.cgx_format_cursor.proofs.allows.Goals as goal
 
 pub returns : goal.returns

@@ -2,7 +2,6 @@
 use Rattle.cgx_spec.specs.Walking.{forged}
 use Rattle.cgx_format_cursor.specs.Cursors.{context_in, place_in}
 use Rattle.cgx_format_cursor.proofs.Laws.{offset_up}
-use borrow.Author.Rules.{rules}
 use Rattle.cgx_format_cursor.proofs.is_forged.Goals as goal
 
 pub returns : goal.returns

@@ -1,6 +1,5 @@
 -- By the kind.
 use mathlib.Core.Path.{refl}
-use borrow.Author.Rules.{rules}
 use Rattle.cgx_format_cursor.proofs.needs_met.Goals as goal
 
 pub returns-in-Library : goal.returns-in-Library

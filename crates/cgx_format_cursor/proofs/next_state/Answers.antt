@@ -1,7 +1,6 @@
 -- The table is that of `next` (`Laws`).
 use mathlib.Core.Path.{◌∙◌}
 use Rattle.cgx_format_cursor.proofs.Laws.{after_is}
-use borrow.Author.Rules.{rules}
 use Rattle.cgx_format_cursor.proofs.next_state.Goals as goal
 
 pub returns : goal.returns

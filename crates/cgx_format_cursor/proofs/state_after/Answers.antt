@@ -2,7 +2,6 @@
 use mathlib.Core.Path.{refl, ap}
 use mathlib.Core.Bool.{false}
 use Prim.Native.Nat.{ℕ, ◌+◌}
-use borrow.Author.Rules.{rules}
 use Rattle.cgx_format_cursor.proofs.state_after.Goals as goal
 
 pub returns-in-Library : goal.returns-in-Library

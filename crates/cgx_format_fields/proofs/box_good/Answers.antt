@@ -1,6 +1,4 @@
 -- Where the first of the two comparisons fails it is the answer, and else the second is.
-use borrow.Author.Rules.{rules}
-use borrow.Author.Tests.{not-true, not-false}
 use Rattle.cgx_format_fields.proofs.Boxes.{left-reversed, then-bottom}
 use Rattle.cgx_format_fields.proofs.box_good.Goals as goal
 

@@ -5,7 +5,6 @@ use lib.ListN.{length, take}
 use Rattle.cgx_spec.specs.Strings.{same}
 use Rattle.cgx_spec.specs.Fields.{passes}
 use Rattle.cgx_spec.proofs.Cuts.{ending}
-use borrow.Author.Rules.{rules}
 use Rattle.cgx_format_fields.proofs.closed_good.Goals as goal
 
 pub returns : goal.returns

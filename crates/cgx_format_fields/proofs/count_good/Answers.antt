@@ -6,7 +6,6 @@ use lib.Signed.{le_z}
 use mir.Syntax.{w32}
 use Rattle.numbers.proofs.Signed.{back}
 use Rattle.cgx_format_fields.proofs.Boxes.{count-is}
-use borrow.Author.Rules.{rules}
 use Rattle.cgx_format_fields.proofs.count_good.Goals as goal
 
 pub returns : goal.returns

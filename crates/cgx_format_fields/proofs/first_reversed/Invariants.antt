@@ -1,12 +1,9 @@
 -- The invariant: the whole is in order where the rest is, since otherwise the function had answered.
-use mathlib.Core.Path.{◌≡◌, refl, ◌∙◌}
+use mathlib.Core.Path.{◌≡◌}
 use Prim.Native.Nat.{◌-◌, ◌≤◌, ◌%◌}
-use native.Mathlib.Omega.{arith}
-use borrow.Author.Tests.{not-true, not-false}
 use lib.ListN.{length, drop}
 use Rattle.cgx_spec.specs.Numbers.{longs_of}
 use Rattle.cgx_spec.specs.Fields.{in_order}
-use Rattle.cgx_format_fields.proofs.Boxes.{box-on, box-reversed, boxes-done}
 use Rattle.cgx_format_fields.proofs.first_reversed.Given as goal
 
 abbrev pub invariant-loop-at : goal.invariant-loop-at

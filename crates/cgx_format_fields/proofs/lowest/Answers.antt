@@ -1,13 +1,12 @@
 -- The invariant: the whole has no zero where the lowest byte so far is none and the rest has none.
-use mathlib.Core.Path.{◌≡◌, refl, sym, ap, ◌∙◌}
+use mathlib.Core.Path.{refl, sym, ap, ◌∙◌}
 use mathlib.Core.Bool.{Bool, not, ◌&&◌}
-use Prim.Native.Nat.{◌+◌, ◌-◌, ◌≤◌}
+use Prim.Native.Nat.{◌+◌}
 use native.Mathlib.Omega.{arith}
 use lib.Dec.{eqb}
-use lib.ListN.{length, drop}
+use lib.ListN.{drop}
 use Rattle.cgx_format_fields.specs.Zeros.{no_zero}
 use Rattle.cgx_format_fields.proofs.Strings.{none-on, none_done}
-use borrow.Author.Rules.{rules}
 use Rattle.cgx_format_fields.proofs.lowest.Goals as goal
 
 pub loop-i-init : goal.loop-i-init

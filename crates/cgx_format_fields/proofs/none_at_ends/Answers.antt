@@ -3,7 +3,6 @@ use Prim.Native.Nat.{◌-◌}
 use native.Mathlib.Omega.{arith}
 use lib.ListN.{length}
 use Rattle.cgx_format_fields.proofs.Pieces.{both_ends}
-use borrow.Author.Rules.{rules}
 use Rattle.cgx_format_fields.proofs.none_at_ends.Goals as goal
 
 pub returns : goal.returns

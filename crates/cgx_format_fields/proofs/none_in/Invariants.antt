@@ -1,11 +1,9 @@
 -- The invariant: the whole has no zero where none was found so far and the rest has none.
-use mathlib.Core.Path.{◌≡◌, refl}
+use mathlib.Core.Path.{◌≡◌}
 use mathlib.Core.Bool.{◌&&◌}
 use Prim.Native.Nat.{◌-◌, ◌≤◌}
-use native.Mathlib.Omega.{arith}
 use lib.ListN.{length, drop}
 use Rattle.cgx_format_fields.specs.Zeros.{no_zero}
-use Rattle.cgx_format_fields.proofs.Strings.{none-on, none_done}
 use Rattle.cgx_format_fields.proofs.none_in.Given as goal
 
 abbrev pub invariant-loop-i : goal.invariant-loop-i

@@ -1,12 +1,9 @@
 -- The invariant: there is no zero before `at`, since otherwise the function had answered. With these bytes the last piece covers all of b.
-use mathlib.Core.Path.{◌≡◌, refl, ◌∙◌}
+use mathlib.Core.Path.{◌≡◌}
 use mathlib.Core.Bool.{true}
 use Prim.Native.Nat.{◌-◌, ◌≤◌}
-use native.Mathlib.Omega.{arith}
-use borrow.Author.Tests.{not-true, not-false}
 use lib.ListN.{length, take}
 use Rattle.cgx_format_fields.specs.Zeros.{no_zero}
-use Rattle.cgx_format_fields.proofs.Pieces.{piece-on, piece-zero, piece-last}
 use Rattle.cgx_format_fields.proofs.none_in_pieces.Given as goal
 
 abbrev pub invariant-loop-at : goal.invariant-loop-at

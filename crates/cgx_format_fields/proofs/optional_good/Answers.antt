@@ -1,6 +1,5 @@
 -- Nothing is good, and anything else is a string.
 use Rattle.cgx_format_fields.proofs.Strings.{optional-none, optional-some}
-use borrow.Author.Rules.{rules}
 use Rattle.cgx_format_fields.proofs.optional_good.Goals as goal
 
 pub returns-then-b-eq0 : goal.returns-then-b-eq0

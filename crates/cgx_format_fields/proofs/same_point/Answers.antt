@@ -3,7 +3,6 @@ use mathlib.Core.Path.{ap₂, ◌∙◌}
 use native.Mathlib.Omega.{arith}
 use lib.Dec.{eqb}
 use Rattle.cgx_format_fields.proofs.Strings.{same_number}
-use borrow.Author.Rules.{rules}
 use Rattle.cgx_format_fields.proofs.same_point.Goals as goal
 
 pub returns : goal.returns

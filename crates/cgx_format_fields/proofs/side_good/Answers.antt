@@ -3,7 +3,6 @@ use mathlib.Core.Path.{ap₂, ◌∙◌}
 use lib.Signed.{le_z}
 use mir.Syntax.{w32}
 use Rattle.numbers.proofs.Signed.{back}
-use borrow.Author.Rules.{rules}
 use Rattle.cgx_format_fields.proofs.side_good.Goals as goal
 
 pub returns : goal.returns

@@ -1,7 +1,6 @@
 -- `string-parts`: a good string by its last byte and the bytes before its last two.
 use native.Mathlib.Omega.{arith}
 use Rattle.cgx_format_fields.proofs.Strings.{string-empty, string-parts}
-use borrow.Author.Rules.{rules}
 use Rattle.cgx_format_fields.proofs.string_good.Goals as goal
 
 pub returns-then-n-eq0 : goal.returns-then-n-eq0

@@ -1,7 +1,6 @@
 -- The cases of `cut`, in its order (`Heads`).
 use native.Mathlib.Omega.{arith}
 use Rattle.cgx_format_headers.proofs.Heads.{head-3, head-4, head-odd, head_small, head-long, head-good}
-use borrow.Author.Rules.{rules}
 use Rattle.cgx_format_headers.proofs.header_at.Goals as goal
 
 pub returns-then-left-eq0 : goal.returns-then-left-eq0

@@ -1,7 +1,6 @@
 -- The parts of the header, from the bytes at the offset.
 use native.Mathlib.Omega.{arith}
 use Rattle.cgx_format_headers.proofs.HeaderLaws.{header_made}
-use borrow.Author.Rules.{rules}
 use Rattle.cgx_format_headers.proofs.header_of.Goals as goal
 
 pub returns : goal.returns

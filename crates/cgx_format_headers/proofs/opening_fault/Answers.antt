@@ -1,7 +1,6 @@
 -- Byte by byte (`Openings`).
 use native.Mathlib.Omega.{arith}
 use Rattle.cgx_format_headers.proofs.Openings.{opening-short, not-c, not-g, not-x, not-level-0, well-begun}
-use borrow.Author.Rules.{rules}
 use Rattle.cgx_format_headers.proofs.opening_fault.Goals as goal
 
 pub returns-then-s-lt4 : goal.returns-then-s-lt4

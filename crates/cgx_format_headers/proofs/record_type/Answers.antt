@@ -2,7 +2,6 @@
 use mathlib.Core.Path.{sym, ap}
 use Rattle.cgx_spec.proofs.Demand3.{unknown-kind}
 use Rattle.cgx_format_headers.specs.Headers.{type_of}
-use borrow.Author.Rules.{rules}
 use Rattle.cgx_format_headers.proofs.record_type.Goals as goal
 
 pub returns-then-t-lt11 : goal.returns-then-t-lt11

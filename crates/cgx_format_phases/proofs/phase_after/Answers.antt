@@ -3,7 +3,6 @@ use mathlib.Core.Path.{sym, ap, ◌∙◌}
 use Rattle.cgx_format_headers.specs.declared.RecordType.{RecordType}
 use Rattle.cgx_format_headers.specs.Headers.{kind_in}
 use Rattle.cgx_format_phases.specs.Phases.{after_phase}
-use borrow.Author.Rules.{rules}
 use Rattle.cgx_format_phases.proofs.phase_after.Goals as goal
 
 pub returns-in-Known : goal.returns-in-Known

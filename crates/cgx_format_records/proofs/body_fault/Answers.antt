@@ -1,5 +1,4 @@
 -- By the kind.
-use borrow.Author.Rules.{rules}
 use Rattle.cgx_format_records.proofs.body_fault.Goals as goal
 
 pub returns-in-Library : goal.returns-in-Library

@@ -1,11 +1,9 @@
 -- The rules one after another (`Rules`).
 use mathlib.Core.Path.{sym, ap, ◌∙◌}
-use borrow.Author.Tests.{not-true, not-false}
 use Rattle.cgx_format_headers.specs.declared.RecordType.{RecordType}
 use Rattle.cgx_format_headers.specs.Headers.{kind_in}
 use Rattle.cgx_format_records.specs.Faults.{rule_fault}
 use Rattle.cgx_format_records.proofs.Rules.{first-6, flags-7, body-8, unknown-0}
-use borrow.Author.Rules.{rules}
 use Rattle.cgx_format_records.proofs.record_fault.Goals as goal
 
 pub returns-then-not-here : goal.returns-then-not-here

@@ -1,6 +1,5 @@
 -- `cgx_format_sref::after` is right in each of its two branches. Assumes nothing.
 use mathlib.Core.Path.{refl}
-use borrow.Author.Rules.{rules}
 use Rattle.cgx_format_sref.proofs.after.Goals as goal
 
 pub returns-then-there : goal.returns-then-there

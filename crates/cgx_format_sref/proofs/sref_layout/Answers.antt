@@ -2,7 +2,6 @@
 use native.Mathlib.Omega.{arith}
 use Rattle.cgx_spec.specs.Kinds.{angle, magnif}
 use Rattle.cgx_format_sref.proofs.Laws.{after_is, made-is, made-laid}
-use borrow.Author.Rules.{rules}
 use Rattle.cgx_format_sref.proofs.sref_layout.Goals as goal
 
 pub after-array-requires : goal.after-array-requires

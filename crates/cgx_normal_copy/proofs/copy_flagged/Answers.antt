@@ -5,7 +5,6 @@ use Prim.Native.Nat.{ℕ, ◌+◌}
 use native.Mathlib.Omega.{arith}
 use lib.ListN.{set}
 use Rattle.buffers.proofs.Puts.{put-set}
-use borrow.Author.Rules.{rules}
 use Rattle.cgx_normal_copy.proofs.copy_flagged.Goals as goal
 
 pub returns : goal.returns

@@ -6,7 +6,6 @@ use native.Mathlib.Omega.{arith}
 use lib.ListN.{drop, get_or, length-take, length-drop}
 use Rattle.cgx_normal_copy.specs.Copy.{reals_end}
 use Rattle.cgx_normal_copy.proofs.Copies.{room-for-reals, copied}
-use borrow.Author.Rules.{rules}
 use Rattle.cgx_normal_copy.proofs.copy_record.Goals as goal
 
 pub put_reals-requires : goal.put_reals-requires

@@ -1,5 +1,4 @@
 -- `cgx_normal_copy::flags_meant` is right: each arm gives what the definition says of its kind. Assumes nothing.
-use borrow.Author.Rules.{rules}
 use Rattle.cgx_normal_copy.proofs.flags_meant.Goals as goal
 
 pub returns-in-Library : goal.returns-in-Library

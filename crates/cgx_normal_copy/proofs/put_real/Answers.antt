@@ -7,7 +7,6 @@ use Rattle.cgx_spec.specs.Reals.{normal_real}
 use Rattle.buffers.specs.Put.{put}
 use Rattle.buffers.proofs.Puts.{put-nil}
 use Rattle.cgx_normal_copy.proofs.Bodies.{wide-on, real-on, real-off}
-use borrow.Author.Rules.{rules}
 use Rattle.cgx_normal_copy.proofs.put_real.Goals as goal
 
 pub slice_bounds-normal_bytes-end : goal.slice_bounds-normal_bytes-end

@@ -1,6 +1,5 @@
 -- `cgx_normal_copy::put_reals` is right: the second store begins where the first ends. Assumes nothing.
 use Rattle.cgx_normal_copy.proofs.Bodies.{two-stored}
-use borrow.Author.Rules.{rules}
 use Rattle.cgx_normal_copy.proofs.put_reals.Goals as goal
 
 pub returns : goal.returns

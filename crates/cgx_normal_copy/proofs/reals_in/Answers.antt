@@ -4,7 +4,6 @@ use Prim.Native.Nat.{ℕ}
 use Rattle.cgx_spec.specs.declared.Kind.{Kind}
 use Rattle.cgx_spec.specs.declared.Kind.TheVariants.{Library, Struct, Cprpty, Property, Layer, Box, Poly, Wire, Text, Sref, Endlib}
 use Rattle.cgx_normal_copy.specs.Copy.{no_reals, reals_in}
-use borrow.Author.Rules.{rules}
 use Rattle.cgx_normal_copy.proofs.reals_in.Goals as goal
 
 others : (k : Kind) (fl : ℕ) → ¬ (k ≡ Library) → ¬ (k ≡ Sref) → no_reals ≡ reals_in k fl

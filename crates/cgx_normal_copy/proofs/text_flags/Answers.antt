@@ -2,7 +2,6 @@
 use mathlib.Core.Path.{ap, ◌∙◌}
 use Prim.Native.Nat.{ℕ, ◌+◌, ◌*◌, ◌%◌, ◌/◌}
 use Rattle.cgx_spec.specs.Kinds.{text_place, text_flags}
-use borrow.Author.Rules.{rules}
 use Rattle.cgx_normal_copy.proofs.text_flags.Goals as goal
 
 pub returns : goal.returns

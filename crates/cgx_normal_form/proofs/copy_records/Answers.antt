@@ -1,7 +1,7 @@
 -- The invariant: what is written so far, with the normal form of the rest of the records after it, is the goal.
-use mathlib.Core.Path.{◌≡◌, refl, ap, ◌∙◌}
+use mathlib.Core.Path.{refl, ap, ◌∙◌}
 use mathlib.Core.List.{List}
-use Prim.Native.Nat.{ℕ, ◌-◌, ◌≤◌}
+use Prim.Native.Nat.{ℕ}
 use native.Mathlib.Omega.{arith}
 use lib.ListN.{length, take}
 use Rattle.cgx_spec.specs.Files.{records_of}
@@ -10,8 +10,7 @@ use Rattle.buffers.proofs.Puts.{put-length}
 use Rattle.cgx_read_sequence.proofs.Rests.{found_first, found-end}
 use Rattle.cgx_read_check.specs.Measure.{normal_run}
 use Rattle.cgx_read_check.proofs.Runs.{form-long}
-use Rattle.cgx_normal_form.proofs.Rests.{long, four, Written, written-first, written-form, copyable, written_on, written_all}
-use borrow.Author.Rules.{rules}
+use Rattle.cgx_normal_form.proofs.Rests.{long, four, written-first, written-form, copyable, written_on, written_all}
 use Rattle.cgx_normal_form.proofs.copy_records.Goals as goal
 
 pub slice_bounds-put_bytes-end : goal.slice_bounds-put_bytes-end

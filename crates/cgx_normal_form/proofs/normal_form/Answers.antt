@@ -4,7 +4,6 @@ use native.Mathlib.Omega.{arith}
 use Rattle.cgx_spec.specs.Files.{Accepted}
 use Rattle.cgx_read_check.proofs.Turns.{verdict-is, length-is}
 use Rattle.cgx_normal_form.proofs.Rests.{made-refused, made-short, made-whole}
-use borrow.Author.Rules.{rules}
 use Rattle.cgx_normal_form.proofs.normal_form.Goals as goal
 
 pub returns-then-out-length : goal.returns-then-out-length

@@ -1,5 +1,4 @@
 -- The verdict of what was measured (`Turns`).
-use borrow.Author.Rules.{rules}
 use Rattle.cgx_read_check.proofs.Turns.{verdict-is}
 use Rattle.cgx_read_check.proofs.check.Goals as goal
 

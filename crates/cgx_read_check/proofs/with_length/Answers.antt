@@ -2,7 +2,6 @@
 use mathlib.Core.Path.{sym, ap}
 use Rattle.cgx_spec.specs.declared.Verdict.{Verdict}
 use Rattle.cgx_read_check.specs.Measure.{measured}
-use borrow.Author.Rules.{rules}
 use Rattle.cgx_read_check.proofs.with_length.Goals as goal
 
 pub returns-in-Accepted : goal.returns-in-Accepted

@@ -6,7 +6,6 @@ use Rattle.numbers.proofs.Signed.{back}
 use Rattle.cgx_format_kinds.specs.Meant.{array_values}
 use Rattle.cgx_read_fields.specs.Views.{array_if}
 use Rattle.cgx_read_fields.proofs.Parts.{array-value}
-use borrow.Author.Rules.{rules}
 use Rattle.cgx_read_fields.proofs.array_if.Goals as goal
 
 pub overflow_add-at : goal.overflow_add-at

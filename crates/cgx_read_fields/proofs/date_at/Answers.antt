@@ -4,7 +4,6 @@ use native.Mathlib.Omega.{arith}
 use mir.Syntax.{w16}
 use Rattle.numbers.proofs.Signed.{back}
 use Rattle.cgx_read_fields.proofs.Parts.{date-value}
-use borrow.Author.Rules.{rules}
 use Rattle.cgx_read_fields.proofs.date_at.Goals as goal
 
 pub returns : goal.returns

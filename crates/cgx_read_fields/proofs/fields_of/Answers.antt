@@ -1,5 +1,4 @@
 -- `cgx_read_fields::fields_of` is right: a readable record of a kind has what the reader of that kind asks, and its fields by their offsets are those of its body. Assumes nothing.
-use borrow.Author.Rules.{rules}
 use Rattle.cgx_read_fields.proofs.Ready.{told, read_as, library-ready, struct-ready, cprpty-ready, property-ready, layer-ready, box-ready, poly-ready, wire-ready, text-ready, endlib-read}
 use Rattle.cgx_read_fields.proofs.Srefs.{sref-ready}
 use Rattle.cgx_read_fields.proofs.fields_of.Goals as goal

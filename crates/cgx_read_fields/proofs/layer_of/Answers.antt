@@ -1,6 +1,5 @@
 -- `cgx_read_fields::layer_of` is right: each field is read where the layout has it. Assumes nothing.
 use mathlib.Core.Path.{refl, ap, ◌∙◌}
-use native.Mathlib.Omega.{arith}
 use Rattle.cgx_spec.specs.Fields.{width, value, values}
 use Rattle.cgx_spec.specs.Kinds.{layout}
 use Rattle.cgx_format_kinds.specs.Meant.{field_values, fields_kind}

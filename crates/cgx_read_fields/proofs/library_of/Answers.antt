@@ -1,5 +1,4 @@
 -- `cgx_read_fields::library_of` is right: each field is read where the layout has it. Assumes nothing.
-use native.Mathlib.Omega.{arith}
 use Rattle.cgx_read_fields.proofs.Libraries.{library-by}
 use Rattle.cgx_read_fields.proofs.library_of.Goals as goal
 

@@ -3,7 +3,6 @@ use mathlib.Core.Path.{◌≡◌, refl}
 use Prim.Native.Nat.{◌*◌, ◌/◌, ◌%◌, ◌+◌}
 use native.Mathlib.Omega.{arith}
 use native.Mathlib.Nat.{div-add-mod', mul_comm}
-use borrow.Author.Rules.{rules}
 use Rattle.cgx_read_fields.proofs.list_of.Goals as goal
 
 pub returns : goal.returns

@@ -1,6 +1,5 @@
 -- `cgx_read_fields::point_at` is right: its two longs are read one after the other. Assumes nothing.
 use mathlib.Core.Path.{◌∙◌}
-use native.Mathlib.Omega.{arith}
 use mir.Syntax.{w32}
 use Rattle.numbers.proofs.Signed.{back}
 use Rattle.cgx_read_fields.proofs.point_at.Goals as goal

@@ -1,7 +1,6 @@
 -- The answer of the word.
 use mathlib.Core.Path.{ap, ◌∙◌}
 use Rattle.cgx_spec.specs.Reals.{answer}
-use borrow.Author.Rules.{rules}
 use Rattle.cgx_read_fields.proofs.real_at.Goals as goal
 
 pub returns : goal.returns

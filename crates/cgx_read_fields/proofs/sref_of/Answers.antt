@@ -1,7 +1,6 @@
 -- `cgx_read_fields::sref_of` is right: each field is read where the layout of its flags has it. Assumes nothing.
 use native.Mathlib.Omega.{arith}
-use Rattle.cgx_read_fields.proofs.Srefs.{Room, sref-room, sref-by}
-use borrow.Author.Rules.{rules}
+use Rattle.cgx_read_fields.proofs.Srefs.{sref-room, sref-by}
 use Rattle.cgx_read_fields.proofs.sref_of.Goals as goal
 
 pub overflow_add-at : goal.overflow_add-at

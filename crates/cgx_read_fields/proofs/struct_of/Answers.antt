@@ -14,11 +14,11 @@ text_at-name-requires c = c.requires
 pub returns : goal.returns
 unfolding FieldsAt field_values fields_kind values_at layout pieces_at width values value
 returns c fl = record {
-      meant =
-          c.date_at-created.ensures
-          then c.date_at-modified.ensures
-          then c.text_at-name.ensures.0
-          then refl;
-      kind-is = refl;
-      located = (c.text_at-name.ensures.1.0, omega arith);
-    }
+  meant =
+      c.date_at-created.ensures
+      then c.date_at-modified.ensures
+      then c.text_at-name.ensures.0
+      then refl;
+  kind-is = refl;
+  located = (c.text_at-name.ensures.1.0, omega arith);
+}

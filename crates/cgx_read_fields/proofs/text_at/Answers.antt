@@ -2,7 +2,6 @@
 use mathlib.Core.Path.{refl}
 use native.Mathlib.Omega.{arith}
 use Rattle.cgx_read_fields.proofs.Texts.{two-zeros, one-zero}
-use borrow.Author.Rules.{rules}
 use Rattle.cgx_read_fields.proofs.text_at.Goals as goal
 
 pub returns-then-f-at-eq0 : goal.returns-then-f-at-eq0

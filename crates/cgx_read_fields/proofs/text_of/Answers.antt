@@ -1,6 +1,5 @@
 -- `cgx_read_fields::text_of` is right: each field is read where the layout has it. Assumes nothing.
 use mathlib.Core.Path.{◌∙◌}
-use native.Mathlib.Omega.{arith}
 use mir.Syntax.{w32}
 use Rattle.numbers.proofs.Signed.{back}
 use Rattle.cgx_read_fields.proofs.Labels.{text-by}

@@ -4,7 +4,6 @@ use Prim.Native.Nat.{ℕ, ◌+◌, ◌-◌}
 use native.Mathlib.Omega.{arith}
 use lib.ListN.{take, drop}
 use Rattle.cgx_spec.specs.Numbers.{number}
-use borrow.Author.Rules.{rules}
 use Rattle.cgx_read_fields.proofs.word_at.Goals as goal
 
 pub returns : goal.returns

@@ -1,5 +1,4 @@
 -- By cases.
-use borrow.Author.Rules.{rules}
 use Rattle.cgx_read_fields.proofs.word_if.Goals as goal
 
 pub word_at-requires : goal.word_at-requires

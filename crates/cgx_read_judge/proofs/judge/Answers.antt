@@ -4,7 +4,6 @@ use native.Mathlib.Omega.{arith}
 use Rattle.cgx_format_headers.proofs.Heads.{header-in}
 use Rattle.cgx_read_steps.proofs.Steps.{held-body}
 use Rattle.cgx_read_judge.proofs.Judgements.{judge-done, judge-more, judge-bad, judge-broken, judge-go}
-use borrow.Author.Rules.{rules}
 use Rattle.cgx_read_judge.proofs.judge.Goals as goal
 
 pub returns-then-at-file : goal.returns-then-at-file

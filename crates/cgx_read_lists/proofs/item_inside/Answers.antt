@@ -1,7 +1,6 @@
 -- `cgx_read_lists::item_inside` is right: an index below the count is inside where it is below the number of whole things that are left. Assumes nothing.
 use native.Mathlib.Omega.{arith}
 use Rattle.cgx_read_lists.proofs.ItemsInside.{past-count, past_end, by-room}
-use borrow.Author.Rules.{rules}
 use Rattle.cgx_read_lists.proofs.item_inside.Goals as goal
 
 pub returns-then-count-i : goal.returns-then-count-i

@@ -1,15 +1,10 @@
 -- `cgx_read_lists::point_at` is right: where the index passes, its bytes lie inside the file, and its longs are read one after another. Assumes nothing.
-use mathlib.Core.Path.{◌≡◌, sym, ◌∙◌}
-use mathlib.Core.Bool.{true}
-use Prim.Native.Nat.{◌+◌, ◌≤◌, ◌<◌}
+use mathlib.Core.Path.{sym, ◌∙◌}
 use native.Mathlib.Omega.{arith}
-use borrow.Author.Tests.{not-true, not-false}
 use lib.ListN.{length}
 use mir.Syntax.{w32}
 use Rattle.numbers.proofs.Signed.{back}
-use Rattle.cgx_read_lists.specs.Lists.{item_inside, place_of}
 use Rattle.cgx_read_lists.proofs.ItemsInside.{inside-then, point-none, point-some}
-use borrow.Author.Rules.{rules}
 use Rattle.cgx_read_lists.proofs.point_at.Goals as goal
 
 pub returns-then-not-item_inside : goal.returns-then-not-item_inside

@@ -1,9 +1,7 @@
 -- `cgx_read_lists::text_bytes` is right: the part is the span where that lies inside the file, else it has no bytes. Assumes nothing.
 use mathlib.Core.Path.{sym, ◌∙◌}
 use native.Mathlib.Omega.{arith}
-use borrow.Author.Tests.{not-true, not-false}
 use Rattle.cgx_read_lists.proofs.ItemsInside.{text_in, no_text, a_text}
-use borrow.Author.Rules.{rules}
 use Rattle.cgx_read_lists.proofs.text_bytes.Goals as goal
 
 pub returns-then-not-text_inside : goal.returns-then-not-text_inside

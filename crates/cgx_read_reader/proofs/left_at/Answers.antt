@@ -1,7 +1,6 @@
 -- By the answer. Assumes nothing.
 use mathlib.Core.Path.{refl}
 use Rattle.cgx_read_reader.specs.Reading.{left_at}
-use borrow.Author.Rules.{rules}
 use Rattle.cgx_read_reader.proofs.left_at.Goals as goal
 
 pub returns-in-Record : goal.returns-in-Record

@@ -1,9 +1,6 @@
 -- The invariant: only unknown records were passed (`Rests`).
-use Prim.Native.Nat.{◌-◌, ◌≤◌}
 use native.Mathlib.Omega.{arith}
-use lib.ListN.{length}
-use Rattle.cgx_read_sequence.proofs.Rests.{enough, Passes, passes_none, passes-all, here, passes-unknown, passes-known}
-use borrow.Author.Rules.{rules}
+use Rattle.cgx_read_sequence.proofs.Rests.{enough, passes_none, passes-all, here, passes-unknown, passes-known}
 use Rattle.cgx_read_sequence.proofs.next_known.Goals as goal
 
 pub loop-at-init : goal.loop-at-init

@@ -1,7 +1,6 @@
 -- 0 is none.
 use mathlib.Core.Path.{refl, sym}
 use native.Mathlib.Omega.{arith}
-use Prim.Native.Nat.{◌<◌}
 use Rattle.cgx_format_cursor.specs.Cursors.{run_in}
 use Rattle.cgx_format_cursor.proofs.Laws.{run_in_lem}
 use Rattle.cgx_read_views.proofs.run_of.Goals as goal

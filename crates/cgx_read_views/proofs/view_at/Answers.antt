@@ -1,9 +1,7 @@
 -- Field by field (`Views`).
 use mathlib.Core.Path.{refl, ap, ◌∙◌}
-use Prim.Native.Nat.{ℕ}
 use Rattle.cgx_format_cursor.specs.Cursors.{run_in}
 use Rattle.cgx_read_views.proofs.Views.{readable, view-is}
-use borrow.Author.Rules.{rules}
 use Rattle.cgx_read_views.proofs.view_at.Goals as goal
 
 pub fields_of-fields-requires : goal.fields_of-fields-requires

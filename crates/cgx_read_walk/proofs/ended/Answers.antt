@@ -2,7 +2,6 @@
 use mathlib.Core.Path.{refl}
 use Rattle.cgx_spec.specs.Walking.{ending}
 use Rattle.cgx_read_walk.specs.Walk.{answer_meant}
-use borrow.Author.Rules.{rules}
 use Rattle.cgx_read_walk.proofs.ended.Goals as goal
 
 pub returns-in-Accepted : goal.returns-in-Accepted

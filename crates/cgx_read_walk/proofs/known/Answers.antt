@@ -1,7 +1,6 @@
 -- The rules, and then the view and the place after the record.
 use mathlib.Core.Path.{sym, ◌∙◌}
 use Rattle.cgx_read_walk.proofs.Answers.{met, judged-kept, broken-made, moved, known-made}
-use borrow.Author.Rules.{rules}
 use Rattle.cgx_read_walk.proofs.known.Goals as goal
 
 pub returns-then-number-ne0 : goal.returns-then-number-ne0

@@ -3,7 +3,6 @@ use mathlib.Core.Path.{sym, ap, ◌∙◌}
 use Rattle.cgx_read_walk.specs.declared.Started.TheVariants.{Ready}
 use Rattle.cgx_read_walk.specs.Walk.{started, start_of}
 use Rattle.cgx_read_walk.proofs.Answers.{not-begun}
-use borrow.Author.Rules.{rules}
 use Rattle.cgx_read_walk.proofs.start.Goals as goal
 
 pub returns-then-number-eq0 : goal.returns-then-number-eq0

@@ -1,6 +1,5 @@
 -- By what is sought (`Answers`).
 use Rattle.cgx_read_walk.proofs.Answers.{sought-forged, sought-ended, sought-known, sought-made}
-use borrow.Author.Rules.{rules}
 use Rattle.cgx_read_walk.proofs.step.Goals as goal
 
 pub known-requires : goal.known-requires

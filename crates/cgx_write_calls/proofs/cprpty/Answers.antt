@@ -7,7 +7,6 @@ use Rattle.cgx_write_given.specs.Given.{given_cprpty}
 use Rattle.cgx_write_given.specs.Writing.{call_in}
 use Rattle.cgx_write_given.proofs.Calling.{calls-promises}
 use Rattle.cgx_write_given.proofs.Ranges.{long-in}
-use borrow.Author.Rules.{rules}
 use Rattle.cgx_write_calls.proofs.cprpty.Goals as goal
 
 pub returns : goal.returns

@@ -12,7 +12,6 @@ use Rattle.cgx_write_given.specs.Given.{given_owned}
 use Rattle.cgx_write_given.specs.Writing.{call_in}
 use Rattle.cgx_write_given.proofs.Calls.{call-refused, call-taken}
 use Rattle.cgx_write_plans.proofs.Order.{call_fits}
-use borrow.Author.Rules.{rules}
 use Rattle.cgx_write_calls.proofs.owned.Goals as goal
 
 pub returns-then-answer-ne0 : goal.returns-then-answer-ne0

@@ -1,6 +1,5 @@
 -- A buffer of four bytes or more holds the header then; a shorter one is untouched.
 use Rattle.cgx_write_given.proofs.Calls.{starts, starts-not}
-use borrow.Author.Rules.{rules}
 use Rattle.cgx_write_calls.proofs.start.Goals as goal
 
 pub returns-then-buf-lt4 : goal.returns-then-buf-lt4

@@ -8,7 +8,6 @@ use Rattle.cgx_write_given.specs.Given.{given_struct}
 use Rattle.cgx_write_given.proofs.Calls.{call-refused, call-taken}
 use Rattle.cgx_write_given.proofs.Calling.{calls-promises}
 use Rattle.cgx_write_plans.proofs.Order.{call_fits}
-use borrow.Author.Rules.{rules}
 use Rattle.cgx_write_calls.proofs.structure.Goals as goal
 
 pub returns-then-answer-ne0 : goal.returns-then-answer-ne0

@@ -1,8 +1,5 @@
 -- The invariant: all are longs where those that are left are.
-use Prim.Native.Nat.{◌-◌, ◌≤◌}
 use native.Mathlib.Omega.{arith}
-use lib.ListN.{length, drop}
-use Rattle.cgx_write_given.specs.Typed.{Longs}
 use Rattle.cgx_write_given.proofs.Ranges.{longs-on, longs-all}
 use Rattle.cgx_write_given.proofs.all_longs.Goals as goal
 

@@ -1,9 +1,7 @@
 -- The invariant: all are longs where those that are left are.
 use Prim.Native.Nat.{◌-◌, ◌≤◌}
-use native.Mathlib.Omega.{arith}
 use lib.ListN.{length, drop}
 use Rattle.cgx_write_given.specs.Typed.{Longs}
-use Rattle.cgx_write_given.proofs.Ranges.{longs-on, longs-all}
 use Rattle.cgx_write_given.proofs.all_longs.Given as goal
 
 abbrev pub invariant-loop-i : goal.invariant-loop-i

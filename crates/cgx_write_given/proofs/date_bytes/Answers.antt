@@ -7,7 +7,6 @@ use mir.Syntax.{w16}
 use mir.ValLaws.{to_z-of_z}
 use Rattle.cgx_spec.specs.Numbers.{short_bytes}
 use Rattle.cgx_write_given.specs.Given.{date_bytes}
-use borrow.Author.Rules.{rules}
 use Rattle.cgx_write_given.proofs.date_bytes.Goals as goal
 
 pub returns : goal.returns

@@ -3,7 +3,6 @@ use mathlib.Core.Path.{ap}
 use native.Mathlib.Omega.{arith}
 use Rattle.cgx_format_sref.specs.declared.SrefLayout.{SrefLayout}
 use Rattle.cgx_write_given.specs.Srefs.{sref_size}
-use borrow.Author.Rules.{rules}
 use Rattle.cgx_write_given.proofs.sref_size.Goals as goal
 
 pub returns : goal.returns

@@ -9,7 +9,6 @@ use mir.Syntax.{w32}
 use mir.Val.{to_z, of_z}
 use Rattle.cgx_spec.specs.Records.{bytes_of}
 use Rattle.buffers.specs.Put.{put}
-use Rattle.buffers.proofs.Puts.{put-length}
 use Rattle.cgx_format_kinds.specs.declared.Point.{Point}
 use Rattle.cgx_write_given.specs.declared.Answer.{Answer}
 use Rattle.cgx_write_given.specs.Given.{written}
@@ -17,7 +16,6 @@ use Rattle.cgx_write_makers.specs.Makers.{outline, caption, handed_back, all_in}
 use Rattle.cgx_write_makers.proofs.Turns.{all-refused, all-taken}
 use Rattle.cgx_write_makers.proofs.Outline.{frame-stored, outline-fits, frame-fits, corners-held, point-held}
 use Rattle.cgx_write_makers.proofs.Demand.{frame-typed}
-use borrow.Author.Rules.{rules}
 use Rattle.cgx_write_makers.proofs.caption_frame.Goals as goal
 
 pub returns-then-answer-ne0 : goal.returns-then-answer-ne0

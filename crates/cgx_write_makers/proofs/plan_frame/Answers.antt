@@ -3,7 +3,6 @@ use mathlib.Core.Path.{◌∙◌}
 use mathlib.Core.List.{[], ◌∷◌}
 use Rattle.cgx_write_makers.specs.Makers.{outline, caption}
 use Rattle.cgx_write_makers.proofs.Turns.{plan-last, more-stops, more-goes}
-use borrow.Author.Rules.{rules}
 use Rattle.cgx_write_makers.proofs.plan_frame.Goals as goal
 
 pub returns-then-planned-ne0 : goal.returns-then-planned-ne0

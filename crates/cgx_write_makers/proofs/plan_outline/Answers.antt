@@ -3,7 +3,6 @@ use mathlib.Core.Path.{◌∙◌}
 use mathlib.Core.List.{[], ◌∷◌}
 use Rattle.cgx_write_makers.specs.Makers.{card_layer, card_wire}
 use Rattle.cgx_write_makers.proofs.Turns.{plan-last, more-stops, more-goes}
-use borrow.Author.Rules.{rules}
 use Rattle.cgx_write_makers.proofs.plan_outline.Goals as goal
 
 pub returns-then-layer-ne0 : goal.returns-then-layer-ne0

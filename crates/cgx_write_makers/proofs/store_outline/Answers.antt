@@ -7,7 +7,6 @@ use Rattle.cgx_spec.specs.Records.{bytes_of}
 use Rattle.buffers.specs.Put.{put}
 use Rattle.cgx_write_given.specs.Given.{written}
 use Rattle.cgx_write_makers.specs.Makers.{card_wire}
-use borrow.Author.Rules.{rules}
 use Rattle.cgx_write_makers.proofs.store_outline.Goals as goal
 
 pub returns : goal.returns

@@ -9,7 +9,6 @@ use Rattle.cgx_write_makers.specs.Makers.{outline, handed_back, all_in}
 use Rattle.cgx_write_makers.proofs.Turns.{all-refused, all-taken}
 use Rattle.cgx_write_makers.proofs.Outline.{outline-stored, outline-fits, corners-held}
 use Rattle.cgx_write_makers.proofs.Demand.{card-typed}
-use borrow.Author.Rules.{rules}
 use Rattle.cgx_write_makers.proofs.test_card.Goals as goal
 
 pub returns-then-answer-ne0 : goal.returns-then-answer-ne0

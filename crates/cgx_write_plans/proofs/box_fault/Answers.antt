@@ -2,7 +2,6 @@
 use mathlib.Core.Path.{sym, ◌∙◌}
 use mathlib.Core.Bool.{true, false}
 use Rattle.cgx_write_plans.proofs.Faults.{box-uneven, box-few, box-is}
-use borrow.Author.Rules.{rules}
 use Rattle.cgx_write_plans.proofs.box_fault.Goals as goal
 
 pub returns-then-sides-ne0 : goal.returns-then-sides-ne0

@@ -1,13 +1,12 @@
 -- The invariant: the whole is in order where all boxes so far are and the rest is.
-use mathlib.Core.Path.{◌≡◌, refl, ap₂, ◌∙◌}
+use mathlib.Core.Path.{refl, ap₂, ◌∙◌}
 use mathlib.Core.Bool.{◌&&◌}
-use Prim.Native.Nat.{◌+◌, ◌-◌, ◌%◌, ◌≤◌}
+use Prim.Native.Nat.{◌+◌, ◌≤◌}
 use native.Mathlib.Omega.{arith}
 use lib.IntN.{pos}
-use lib.ListN.{length, drop, get_or}
+use lib.ListN.{length, get_or}
 use Rattle.cgx_spec.specs.Fields.{in_order}
 use Rattle.cgx_write_plans.proofs.Ordered.{tested, order-on, order-done}
-use borrow.Author.Rules.{rules}
 use Rattle.cgx_write_plans.proofs.boxes_good.Goals as goal
 
 pub loop-i-init : goal.loop-i-init

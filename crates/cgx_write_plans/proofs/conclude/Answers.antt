@@ -3,7 +3,6 @@ use mathlib.Core.Path.{sym, ap, ◌∙◌}
 use native.Mathlib.Omega.{arith}
 use Rattle.cgx_write_plans.specs.Plans.{said, concluded}
 use Rattle.cgx_write_plans.proofs.Order.{says-no, says-yes, checked-fits}
-use borrow.Author.Rules.{rules}
 use Rattle.cgx_write_plans.proofs.conclude.Goals as goal
 
 pub returns-then-number-ne0 : goal.returns-then-number-ne0

@@ -3,7 +3,6 @@ use mathlib.Core.Bool.{true, false}
 use Rattle.cgx_spec.specs.Dates.{calendar}
 use Rattle.cgx_write_given.specs.Given.{date_bytes}
 use Rattle.cgx_write_plans.proofs.Dated.{both}
-use borrow.Author.Rules.{rules}
 use Rattle.cgx_write_plans.proofs.dates_fault.Goals as goal
 
 pub returns-then-good : goal.returns-then-good

@@ -3,12 +3,11 @@ use mathlib.Core.Path.{sym, ◌∙◌}
 use mathlib.Core.Option.{some}
 use Prim.Native.Nat.{◌+◌}
 use native.Mathlib.Omega.{arith}
-use borrow.Author.Tests.{eq-eqb, ne_eqb, le-leb, lt-leb, not-true, not-false}
+use borrow.Author.Tests.{eq-eqb, ne_eqb, le-leb, lt-leb}
 use Rattle.cgx_spec.specs.Order.{allowed}
 use Rattle.cgx_format_cursor.specs.Cursors.{context_in}
 use Rattle.cgx_write_given.specs.Writing.{offset_of, context_of}
 use Rattle.cgx_write_plans.proofs.Order.{chk16, chk6, chk_b, chk15, chk14, chk0, follows, ended-not, not-forged}
-use borrow.Author.Rules.{rules}
 use Rattle.cgx_write_plans.proofs.first_check.Goals as goal
 
 pub returns-then-is_forged : goal.returns-then-is_forged

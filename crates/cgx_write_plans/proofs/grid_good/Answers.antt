@@ -1,6 +1,5 @@
 -- Asked only where the array is there.
 use Rattle.cgx_write_plans.proofs.Srefs.{grid-on}
-use borrow.Author.Rules.{rules}
 use Rattle.cgx_write_plans.proofs.grid_good.Goals as goal
 
 pub returns-then-set : goal.returns-then-set

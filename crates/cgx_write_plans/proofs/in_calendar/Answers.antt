@@ -2,7 +2,6 @@
 use mathlib.Core.Path.{ap, ◌∙◌}
 use Rattle.cgx_spec.specs.Dates.{good_date}
 use Rattle.cgx_write_plans.proofs.Dated.{date-rule}
-use borrow.Author.Rules.{rules}
 use Rattle.cgx_write_plans.proofs.in_calendar.Goals as goal
 
 pub returns : goal.returns

@@ -5,7 +5,6 @@ use Prim.Native.Nat.{◌+◌, ◌-◌}
 use lib.IntN.{pos}
 use lib.ListN.{length, get_or}
 use Rattle.cgx_write_plans.proofs.Polys.{closed_is, equal-held}
-use borrow.Author.Rules.{rules}
 use Rattle.cgx_write_plans.proofs.is_closed.Goals as goal
 
 pub returns : goal.returns

@@ -1,6 +1,5 @@
 -- Asked only where the magnif is there.
 use Rattle.cgx_write_plans.proofs.Srefs.{scale-on}
-use borrow.Author.Rules.{rules}
 use Rattle.cgx_write_plans.proofs.magnif_good.Goals as goal
 
 pub returns-then-set : goal.returns-then-set

@@ -3,7 +3,6 @@ use mathlib.Core.Path.{◌∙◌}
 use Rattle.cgx_write_given.specs.Given.{given_box}
 use Rattle.cgx_write_given.proofs.Sizes.{box-size}
 use Rattle.cgx_write_plans.proofs.Order.{plan-is}
-use borrow.Author.Rules.{rules}
 use Rattle.cgx_write_plans.proofs.plan_box.Goals as goal
 
 pub returns : goal.returns

@@ -3,7 +3,6 @@ use Rattle.cgx_write_given.specs.Given.{given_endlib}
 use Rattle.cgx_write_given.proofs.Sizes.{endlib-size}
 use Rattle.cgx_write_plans.proofs.Faults.{endlib-fault}
 use Rattle.cgx_write_plans.proofs.Order.{plan-is}
-use borrow.Author.Rules.{rules}
 use Rattle.cgx_write_plans.proofs.plan_endlib.Goals as goal
 
 pub returns : goal.returns

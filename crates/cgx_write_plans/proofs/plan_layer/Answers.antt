@@ -4,7 +4,6 @@ use Rattle.cgx_write_given.specs.Given.{given_layer}
 use Rattle.cgx_write_given.proofs.Sizes.{layer-size}
 use Rattle.cgx_write_plans.proofs.Faults.{layer-fault}
 use Rattle.cgx_write_plans.proofs.Order.{plan-is}
-use borrow.Author.Rules.{rules}
 use Rattle.cgx_write_plans.proofs.plan_layer.Goals as goal
 
 pub returns : goal.returns

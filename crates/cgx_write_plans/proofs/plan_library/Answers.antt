@@ -4,7 +4,6 @@ use Rattle.cgx_write_plans.proofs.Dated.{library-fault}
 use Rattle.cgx_write_given.specs.Given.{given_library}
 use Rattle.cgx_write_given.proofs.Widths.{library-size}
 use Rattle.cgx_write_plans.proofs.Order.{plan-is}
-use borrow.Author.Rules.{rules}
 use Rattle.cgx_write_plans.proofs.plan_library.Goals as goal
 
 pub returns : goal.returns

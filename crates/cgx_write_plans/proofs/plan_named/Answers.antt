@@ -5,7 +5,6 @@ use Rattle.cgx_write_given.specs.Given.{given_layer}
 use Rattle.cgx_write_given.proofs.Sizes.{named-size}
 use Rattle.cgx_write_plans.proofs.Faults.{named-fault}
 use Rattle.cgx_write_plans.proofs.Order.{plan-is}
-use borrow.Author.Rules.{rules}
 use Rattle.cgx_write_plans.proofs.plan_named.Goals as goal
 
 pub returns : goal.returns

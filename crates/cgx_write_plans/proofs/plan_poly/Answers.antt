@@ -3,7 +3,6 @@ use mathlib.Core.Path.{◌∙◌}
 use Rattle.cgx_write_given.specs.Given.{given_poly}
 use Rattle.cgx_write_given.proofs.Sizes.{poly-size}
 use Rattle.cgx_write_plans.proofs.Order.{plan-is}
-use borrow.Author.Rules.{rules}
 use Rattle.cgx_write_plans.proofs.plan_poly.Goals as goal
 
 pub returns : goal.returns

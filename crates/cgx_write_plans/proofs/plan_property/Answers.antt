@@ -1,13 +1,11 @@
 -- The rule of the value and the size of the record.
 use mathlib.Core.Path.{ap, ◌∙◌}
-use Prim.Native.Nat.{ℕ}
 use Rattle.cgx_spec.specs.declared.Kind.{Kind}
 use Rattle.cgx_write_given.specs.Given.{given_owned}
 use Rattle.cgx_write_given.proofs.Widths.{owned-size}
 use Rattle.cgx_write_plans.specs.Plans.{concluded}
 use Rattle.cgx_write_plans.proofs.Dated.{owned-fault}
 use Rattle.cgx_write_plans.proofs.Order.{plan-is}
-use borrow.Author.Rules.{rules}
 use Rattle.cgx_write_plans.proofs.plan_property.Goals as goal
 
 pub returns : goal.returns

@@ -4,7 +4,6 @@ use Rattle.cgx_write_given.specs.Given.{given_sref}
 use Rattle.cgx_write_given.proofs.Srefs.{sref-size}
 use Rattle.cgx_write_plans.proofs.Srefs.{sref-fault}
 use Rattle.cgx_write_plans.proofs.Order.{plan-is}
-use borrow.Author.Rules.{rules}
 use Rattle.cgx_write_plans.proofs.plan_sref.Goals as goal
 
 pub returns : goal.returns

@@ -4,7 +4,6 @@ use Rattle.cgx_write_plans.proofs.Dated.{struct-fault}
 use Rattle.cgx_write_given.specs.Given.{given_struct}
 use Rattle.cgx_write_given.proofs.Widths.{struct-size}
 use Rattle.cgx_write_plans.proofs.Order.{plan-is}
-use borrow.Author.Rules.{rules}
 use Rattle.cgx_write_plans.proofs.plan_struct.Goals as goal
 
 pub returns : goal.returns

@@ -4,7 +4,6 @@ use Rattle.cgx_write_given.specs.Given.{given_text}
 use Rattle.cgx_write_given.proofs.Sizes.{label-size}
 use Rattle.cgx_write_plans.proofs.Faults.{label-fault}
 use Rattle.cgx_write_plans.proofs.Order.{plan-is}
-use borrow.Author.Rules.{rules}
 use Rattle.cgx_write_plans.proofs.plan_text.Goals as goal
 
 pub returns : goal.returns

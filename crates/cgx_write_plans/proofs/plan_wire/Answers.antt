@@ -4,7 +4,6 @@ use Rattle.cgx_write_given.specs.Given.{given_wire}
 use Rattle.cgx_write_given.proofs.Sizes.{wire-size}
 use Rattle.cgx_write_plans.proofs.Faults.{wire-fault}
 use Rattle.cgx_write_plans.proofs.Order.{plan-is}
-use borrow.Author.Rules.{rules}
 use Rattle.cgx_write_plans.proofs.plan_wire.Goals as goal
 
 pub returns : goal.returns

@@ -2,7 +2,6 @@
 use mathlib.Core.Path.{sym, ◌∙◌}
 use mathlib.Core.Bool.{true, false}
 use Rattle.cgx_write_plans.proofs.Polys.{poly-uneven, poly-few, poly-is}
-use borrow.Author.Rules.{rules}
 use Rattle.cgx_write_plans.proofs.poly_fault.Goals as goal
 
 pub returns-then-points-ne0 : goal.returns-then-points-ne0

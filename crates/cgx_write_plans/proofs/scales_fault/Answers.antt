@@ -2,7 +2,6 @@
 use mathlib.Core.Bool.{true, false}
 use Rattle.cgx_spec.specs.Reals.{positive_real}
 use Rattle.cgx_write_plans.proofs.Dated.{both}
-use borrow.Author.Rules.{rules}
 use Rattle.cgx_write_plans.proofs.scales_fault.Goals as goal
 
 pub returns-then-good : goal.returns-then-good

@@ -1,8 +1,6 @@
 -- Each outcome is one law of the rules of an SREF.
 use mathlib.Core.Path.{◌∙◌}
-use borrow.Author.Tests.{not-true, not-false}
 use Rattle.cgx_write_plans.proofs.Srefs.{scaled-by, repeated-by, sref-flags, sref-scale, sref-grid, sref-text}
-use borrow.Author.Rules.{rules}
 use Rattle.cgx_write_plans.proofs.sref_fault.Goals as goal
 
 pub returns-then-flags-gt-MAX_FLAGS : goal.returns-then-flags-gt-MAX_FLAGS

@@ -2,7 +2,6 @@
 use mathlib.Core.Path.{sym, ◌∙◌}
 use mathlib.Core.Bool.{true, false}
 use Rattle.cgx_write_plans.proofs.Faults.{text-fault}
-use borrow.Author.Rules.{rules}
 use Rattle.cgx_write_plans.proofs.text_fault.Goals as goal
 
 pub returns-then-no_zero : goal.returns-then-no_zero

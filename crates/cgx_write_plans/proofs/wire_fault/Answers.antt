@@ -3,7 +3,6 @@ use mathlib.Core.Bool.{true, false}
 use lib.ListN.{length}
 use Rattle.cgx_write_given.specs.Given.{style_of}
 use Rattle.cgx_write_plans.proofs.Faults.{wire-style, wire-is, pairs-uneven, pairs-few, pairs-enough}
-use borrow.Author.Rules.{rules}
 use Rattle.cgx_write_plans.proofs.wire_fault.Goals as goal
 
 pub returns-then-flags-gt-MAX_FLAGS : goal.returns-then-flags-gt-MAX_FLAGS

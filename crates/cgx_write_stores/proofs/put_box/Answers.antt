@@ -8,7 +8,6 @@ use Rattle.numbers.proofs.Signed.{back}
 use Rattle.cgx_spec.specs.Numbers.{long_bytes}
 use Rattle.buffers.specs.Put.{put}
 use Rattle.cgx_write_stores.proofs.Chain.{onto, four-longs}
-use borrow.Author.Rules.{rules}
 use Rattle.cgx_write_stores.proofs.put_box.Goals as goal
 
 pub returns : goal.returns

@@ -5,7 +5,6 @@ use native.Mathlib.Omega.{arith}
 use lib.IntN.{ℤ}
 use Rattle.buffers.specs.Put.{put, longs_bytes}
 use Rattle.cgx_write_stores.proofs.Srefs.{grid-on, grid-off, longs-held}
-use borrow.Author.Rules.{rules}
 use Rattle.cgx_write_stores.proofs.put_grid_if.Goals as goal
 
 pub put_longs-requires : goal.put_longs-requires

@@ -3,7 +3,6 @@ use mathlib.Core.Path.{ap₂, ◌∙◌}
 use mathlib.Core.List.{[], ◌∷◌}
 use Prim.Native.Nat.{ℕ, ◌/◌, ◌%◌}
 use Rattle.buffers.specs.Put.{put}
-use borrow.Author.Rules.{rules}
 use Rattle.cgx_write_stores.proofs.put_header.Goals as goal
 
 pub returns : goal.returns

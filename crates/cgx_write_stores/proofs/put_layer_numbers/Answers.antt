@@ -8,7 +8,6 @@ use mir.ValLaws.{to_z-of_z}
 use Rattle.cgx_spec.specs.Numbers.{short_bytes}
 use Rattle.buffers.specs.Put.{put}
 use Rattle.buffers.proofs.Puts.{put_next}
-use borrow.Author.Rules.{rules}
 use Rattle.cgx_write_stores.proofs.put_layer_numbers.Goals as goal
 
 pub returns : goal.returns

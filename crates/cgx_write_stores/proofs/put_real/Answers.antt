@@ -1,7 +1,6 @@
 -- The bytes that `normal_bytes` makes are stored.
 use mathlib.Core.Path.{ap, ◌∙◌}
 use Rattle.buffers.specs.Put.{put}
-use borrow.Author.Rules.{rules}
 use Rattle.cgx_write_stores.proofs.put_real.Goals as goal
 
 pub returns : goal.returns

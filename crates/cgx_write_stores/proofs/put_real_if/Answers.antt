@@ -3,7 +3,6 @@ use mathlib.Core.Path.{ap, ◌∙◌}
 use native.Mathlib.Omega.{arith}
 use Rattle.buffers.specs.Put.{put}
 use Rattle.cgx_write_stores.proofs.Srefs.{real-on, real-off}
-use borrow.Author.Rules.{rules}
 use Rattle.cgx_write_stores.proofs.put_real_if.Goals as goal
 
 pub put_bytes-requires : goal.put_bytes-requires

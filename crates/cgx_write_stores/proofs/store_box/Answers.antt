@@ -6,7 +6,6 @@ use Rattle.cgx_write_given.specs.Given.{stored, given_box}
 use Rattle.cgx_write_given.proofs.Sizes.{box-size}
 use Rattle.cgx_write_given.proofs.Widths.{record-put}
 use Rattle.cgx_write_stores.proofs.Chain.{onto}
-use borrow.Author.Rules.{rules}
 use Rattle.cgx_write_stores.proofs.store_box.Goals as goal
 
 pub returns-then-sides-eq-BOX_LONGS : goal.returns-then-sides-eq-BOX_LONGS

@@ -9,7 +9,6 @@ use Rattle.cgx_write_given.specs.Given.{stored, given_layer}
 use Rattle.cgx_write_given.proofs.Sizes.{layer-size}
 use Rattle.cgx_write_given.proofs.Widths.{record-put}
 use Rattle.cgx_write_stores.proofs.Chain.{onto, two-shorts}
-use borrow.Author.Rules.{rules}
 use Rattle.cgx_write_stores.proofs.store_layer.Goals as goal
 
 pub returns : goal.returns

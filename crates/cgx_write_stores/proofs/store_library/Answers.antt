@@ -8,7 +8,6 @@ use Rattle.buffers.proofs.Padding.{length-padded}
 use Rattle.cgx_write_given.specs.Given.{date_bytes, stored, given_library}
 use Rattle.cgx_write_given.proofs.Widths.{library-size, record-put}
 use Rattle.cgx_write_stores.proofs.Chain.{onto}
-use borrow.Author.Rules.{rules}
 use Rattle.cgx_write_stores.proofs.store_library.Goals as goal
 
 pub put_text-requires : goal.put_text-requires

@@ -11,7 +11,6 @@ use Rattle.cgx_write_given.specs.Given.{stored, given_layer}
 use Rattle.cgx_write_given.proofs.Sizes.{named-size}
 use Rattle.cgx_write_given.proofs.Widths.{record-put}
 use Rattle.cgx_write_stores.proofs.Chain.{onto, two-shorts}
-use borrow.Author.Rules.{rules}
 use Rattle.cgx_write_stores.proofs.store_named.Goals as goal
 
 pub put_text-requires : goal.put_text-requires

@@ -6,7 +6,6 @@ use Rattle.cgx_write_given.specs.Given.{stored, given_poly}
 use Rattle.cgx_write_given.proofs.Sizes.{poly-size}
 use Rattle.cgx_write_given.proofs.Widths.{record-put}
 use Rattle.cgx_write_stores.proofs.Chain.{onto}
-use borrow.Author.Rules.{rules}
 use Rattle.cgx_write_stores.proofs.store_poly.Goals as goal
 
 pub returns : goal.returns

@@ -15,7 +15,6 @@ use Rattle.buffers.proofs.Padding.{length-padded}
 use Rattle.cgx_write_given.specs.Given.{stored, given_owned}
 use Rattle.cgx_write_given.proofs.Widths.{owned-size, record-put}
 use Rattle.cgx_write_stores.proofs.Chain.{onto}
-use borrow.Author.Rules.{rules}
 use Rattle.cgx_write_stores.proofs.store_property.Goals as goal
 
 pub put_text-requires : goal.put_text-requires

@@ -15,7 +15,6 @@ use Rattle.buffers.proofs.Padding.{length-padded}
 use Rattle.cgx_write_given.specs.Srefs.{real_if, grid_if}
 use Rattle.cgx_write_stores.proofs.Chain.{onto}
 use Rattle.cgx_write_stores.proofs.Srefs.{roomy, sref-store}
-use borrow.Author.Rules.{rules}
 use Rattle.cgx_write_stores.proofs.store_sref.Goals as goal
 
 pub put_header-requires : goal.put_header-requires

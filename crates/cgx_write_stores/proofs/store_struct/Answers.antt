@@ -7,7 +7,6 @@ use Rattle.buffers.proofs.Padding.{length-padded}
 use Rattle.cgx_write_given.specs.Given.{date_bytes, stored, given_struct}
 use Rattle.cgx_write_given.proofs.Widths.{struct-size, record-put}
 use Rattle.cgx_write_stores.proofs.Chain.{onto}
-use borrow.Author.Rules.{rules}
 use Rattle.cgx_write_stores.proofs.store_struct.Goals as goal
 
 pub put_text-requires : goal.put_text-requires

@@ -13,7 +13,6 @@ use Rattle.cgx_write_given.specs.Given.{stored, given_text}
 use Rattle.cgx_write_given.proofs.Sizes.{label-size}
 use Rattle.cgx_write_given.proofs.Widths.{record-put}
 use Rattle.cgx_write_stores.proofs.Chain.{onto}
-use borrow.Author.Rules.{rules}
 use Rattle.cgx_write_stores.proofs.store_text.Goals as goal
 
 pub put_text-requires : goal.put_text-requires

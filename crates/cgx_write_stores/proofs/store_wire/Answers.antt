@@ -13,7 +13,6 @@ use Rattle.cgx_write_given.specs.Given.{stored, given_wire}
 use Rattle.cgx_write_given.proofs.Sizes.{wire-size}
 use Rattle.cgx_write_given.proofs.Widths.{record-put}
 use Rattle.cgx_write_stores.proofs.Chain.{onto}
-use borrow.Author.Rules.{rules}
 use Rattle.cgx_write_stores.proofs.store_wire.Goals as goal
 
 pub returns : goal.returns

@@ -1,5 +1,4 @@
 -- `doubles::real_from_bits` is right: it asks what the definition asks, in its order. Assumes nothing.
-use borrow.Author.Rules.{rules}
 use mathlib.Core.Path.{◌∙◌}
 use Rattle.doubles.proofs.Made.{from_zero, from-none, from-ones, from_low, from-high}
 use Rattle.doubles.proofs.real_from_bits.Goals as goal

@@ -1,5 +1,4 @@
 -- `doubles::real_lowered` is right: shifted down and up again the significand is itself where 2 ^ k divides it. Assumes nothing.
-use borrow.Author.Rules.{rules}
 use mathlib.Core.Path.{◌∙◌}
 use native.Mathlib.Omega.{arith}
 use Rattle.doubles.proofs.Made.{down_lt, lowered-far, lowered_none, lowered-some}

@@ -1,7 +1,5 @@
 -- `doubles::real_raised` is right: e has seven bits or there is no real, and the significand times at most 8 is below 2 ^ 56. Assumes nothing.
-use borrow.Author.Rules.{rules}
 use mathlib.Core.Path.{◌∙◌}
-use Prim.Native.Nat.{◌^◌}
 use native.Mathlib.Omega.{arith}
 use Rattle.doubles.proofs.Made.{up_lt, raised-none, raised-some}
 use Rattle.doubles.proofs.real_raised.Goals as goal

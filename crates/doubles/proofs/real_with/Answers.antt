@@ -1,5 +1,4 @@
 -- `doubles::real_with` is right: the sign bit of a double and of a real is the top one. Assumes nothing.
-use borrow.Author.Rules.{rules}
 use Rattle.doubles.proofs.Made.{real-is}
 use Rattle.doubles.proofs.real_with.Goals as goal
 

@@ -5,7 +5,6 @@ use mir.Syntax.{w32}
 use Rattle.cgx_spec.specs.Numbers.{long_of}
 use Rattle.numbers.proofs.Signed.{back}
 use Rattle.numbers.proofs.Parts.{part}
-use borrow.Author.Rules.{rules}
 use Rattle.numbers.proofs.long_at.Goals as goal
 
 pub returns : goal.returns

@@ -4,7 +4,6 @@ use Prim.Native.Nat.{◌^◌}
 use mir.Syntax.{w32}
 use Rattle.cgx_spec.specs.Numbers.{twos, long_of}
 use Rattle.numbers.proofs.Signed.{back}
-use borrow.Author.Rules.{rules}
 use Rattle.numbers.proofs.long_of.Goals as goal
 
 pub returns : goal.returns

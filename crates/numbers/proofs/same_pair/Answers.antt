@@ -3,7 +3,6 @@ use mathlib.Core.Path.{◌∙◌}
 use native.Mathlib.Omega.{arith}
 use Rattle.cgx_spec.specs.Numbers.{Bytes}
 use Rattle.numbers.proofs.Same.{first-low, second-low, pair_same}
-use borrow.Author.Rules.{rules}
 use Rattle.numbers.proofs.same_pair.Goals as goal
 
 pub returns : goal.returns

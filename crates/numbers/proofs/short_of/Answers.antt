@@ -4,7 +4,6 @@ use Prim.Native.Nat.{◌^◌}
 use mir.Syntax.{w16}
 use Rattle.cgx_spec.specs.Numbers.{twos, short_of}
 use Rattle.numbers.proofs.Signed.{back}
-use borrow.Author.Rules.{rules}
 use Rattle.numbers.proofs.short_of.Goals as goal
 
 pub returns : goal.returns

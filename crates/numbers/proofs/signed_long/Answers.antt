@@ -2,7 +2,6 @@
 use native.Mathlib.Omega.{arith}
 use mir.Syntax.{w32}
 use Rattle.numbers.proofs.Signed.{low, high, high_fits}
-use borrow.Author.Rules.{rules}
 use Rattle.numbers.proofs.signed_long.Goals as goal
 
 pub overflow_sub-result-else-n-lt2147483648 : goal.overflow_sub-result-else-n-lt2147483648

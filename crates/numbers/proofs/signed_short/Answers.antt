@@ -2,7 +2,6 @@
 use native.Mathlib.Omega.{arith}
 use mir.Syntax.{w16}
 use Rattle.numbers.proofs.Signed.{low, high, high_fits}
-use borrow.Author.Rules.{rules}
 use Rattle.numbers.proofs.signed_short.Goals as goal
 
 pub overflow_sub-result-else-n-lt32768 : goal.overflow_sub-result-else-n-lt32768

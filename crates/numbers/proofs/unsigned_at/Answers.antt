@@ -3,7 +3,6 @@ use mathlib.Core.Path.{ap, ◌∙◌}
 use native.Mathlib.Omega.{arith}
 use Rattle.cgx_spec.specs.Numbers.{number}
 use Rattle.numbers.proofs.Parts.{part}
-use borrow.Author.Rules.{rules}
 use Rattle.numbers.proofs.unsigned_at.Goals as goal
 
 pub returns : goal.returns

@@ -2,7 +2,6 @@
 use mathlib.Core.Path.{ap, ◌∙◌}
 use Rattle.cgx_spec.specs.Numbers.{digits}
 use Rattle.cgx_spec.specs.Reals.{normal, normal_real}
-use borrow.Author.Rules.{rules}
 use Rattle.reals.proofs.normal_bytes.Goals as goal
 
 pub returns : goal.returns

@@ -1,5 +1,4 @@
 -- `reals::normal_real` is right: the loop keeps what `lower` makes of exponent and mantissa, and ends where `lower` does. Assumes nothing.
-use borrow.Author.Rules.{rules}
 use mathlib.Core.Path.{◌≡◌, refl, sym, ◌∙◌}
 use Prim.Native.Nat.{◌<◌, ◌^◌}
 use native.Mathlib.Omega.{arith}
@@ -27,7 +26,7 @@ returns c = let l = c.loop-m in
     let w = c.args.w in
     let ends : lower l.e l.m ≡ (l.e, l.m) =
     elim c.loop-m-test.branch [
-      else-loop-m-test q ↦ lower-full l.e l.m q.loop-m-test.false
+      | else-loop-m-test q ↦ lower-full l.e l.m q.loop-m-test.false
       | then-loop-m-test+then-e-eq0 q ↦ lower-end l.e l.m q.if-e-eq0.true
     ] in
     sym (normal-made w l.e l.m c.ranges.w.fits c.if-m-eq0.false (sym l.invariant.0 ∙ ends))

@@ -1,11 +1,7 @@
 -- `reals::normal_real` is right: the loop keeps what `lower` makes of exponent and mantissa, and ends where `lower` does. Assumes nothing.
-use borrow.Author.Rules.{rules}
-use mathlib.Core.Path.{◌≡◌, refl, sym, ◌∙◌}
-use mathlib.Core.Logic.{⊎_elim}
+use mathlib.Core.Path.{◌≡◌}
 use Prim.Native.Nat.{◌<◌, ◌^◌}
-use native.Mathlib.Omega.{arith}
-use Rattle.cgx_spec.specs.Reals.{lower, exponent, mantissa}
-use Rattle.cgx_spec.proofs.RealLaws.{lower-step, lower-full, lower-end, normal-of-zero, normal-made}
+use Rattle.cgx_spec.specs.Reals.{lower}
 use Rattle.reals.proofs.normal_real.Given as goal
 
 abbrev pub invariant-loop-m : goal.invariant-loop-m

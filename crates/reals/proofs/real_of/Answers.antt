@@ -1,5 +1,4 @@
 -- `reals::real_of` is right: without its trailing zero bits a mantissa below 2 ^ 53 is scaled with no rounding, and any other has no double. Assumes nothing.
-use borrow.Author.Rules.{rules}
 use mathlib.Core.Path.{◌≡◌, sym, ap, ◌∙◌}
 use mathlib.Core.Bool.{Bool, false}
 use Prim.Native.Nat.{◌%◌, ◌^◌}

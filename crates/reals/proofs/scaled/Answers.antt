@@ -1,5 +1,4 @@
 -- `reals::scaled` is right: the cast is exact, since q is below 2 ^ 53, the pattern is a power of two's, and so the product is rounded from the number itself. Assumes nothing.
-use borrow.Author.Rules.{rules}
 use borrow.Author.Tests.{le-ltb}
 use mathlib.Core.Bool.{Bool, not}
 use mathlib.Core.Path.{sym, subst, ◌∙◌}

@@ -4,7 +4,6 @@ use Rattle.cgx_format_kinds.specs.declared.ItemList.{ItemList}
 use Rattle.cgx_read_lists.specs.declared.BoxAt.{BoxAt}
 use Rattle.cgx_read_lists.specs.Lists.{box_of}
 use Rattle.cgx_c_answers.specs.Told.{box_told}
-use borrow.Author.Rules.{rules}
 use Rattle.cgx_c.proofs.reading.cgx_box_at.Goals as goal
 
 pub returns : goal.returns

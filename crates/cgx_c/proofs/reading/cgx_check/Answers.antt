@@ -2,7 +2,6 @@
 use mathlib.Core.Path.{ap, ◌∙◌}
 use Rattle.cgx_spec.specs.declared.Verdict.{Verdict}
 use Rattle.cgx_c_answers.specs.Told.{verdict_told}
-use borrow.Author.Rules.{rules}
 use Rattle.cgx_c.proofs.reading.cgx_check.Goals as goal
 
 pub returns : goal.returns

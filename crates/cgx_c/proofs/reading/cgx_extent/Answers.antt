@@ -2,7 +2,6 @@
 use mathlib.Core.Path.{ap, ◌∙◌}
 use Rattle.cgx_ask_extent.specs.declared.CellExtent.{CellExtent}
 use Rattle.cgx_c_answers.specs.Told.{extent_told}
-use borrow.Author.Rules.{rules}
 use Rattle.cgx_c.proofs.reading.cgx_extent.Goals as goal
 
 pub returns : goal.returns

@@ -3,7 +3,6 @@ use mathlib.Core.Path.{ap, ◌∙◌}
 use lib.ListN.{length}
 use Rattle.cgx_ask_layer_name.specs.declared.NameAnswer.{NameAnswer}
 use Rattle.cgx_c_answers.specs.Told.{name_told}
-use borrow.Author.Rules.{rules}
 use Rattle.cgx_c.proofs.reading.cgx_layer_name.Goals as goal
 
 pub returns : goal.returns

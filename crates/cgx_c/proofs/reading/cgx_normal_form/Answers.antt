@@ -2,7 +2,6 @@
 use mathlib.Core.Path.{ap, ◌∙◌}
 use Rattle.cgx_normal_form.specs.declared.NormalAnswer.{NormalAnswer}
 use Rattle.cgx_c_answers.specs.Told.{normal_told}
-use borrow.Author.Rules.{rules}
 use Rattle.cgx_c.proofs.reading.cgx_normal_form.Goals as goal
 
 pub returns : goal.returns

@@ -2,7 +2,6 @@
 use mathlib.Core.Path.{ap, ◌∙◌}
 use Rattle.cgx_read_check.specs.declared.Measured.{Measured}
 use Rattle.cgx_c_answers.specs.Told.{length_told}
-use borrow.Author.Rules.{rules}
 use Rattle.cgx_c.proofs.reading.cgx_normal_length.Goals as goal
 
 pub returns : goal.returns

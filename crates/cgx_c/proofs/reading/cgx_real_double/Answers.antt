@@ -2,7 +2,6 @@
 use mathlib.Core.Path.{ap, ◌∙◌}
 use Rattle.cgx_spec.specs.declared.Real.{Real}
 use Rattle.cgx_c_answers.specs.Told.{double_told}
-use borrow.Author.Rules.{rules}
 use Rattle.cgx_c.proofs.reading.cgx_real_double.Goals as goal
 
 pub returns : goal.returns

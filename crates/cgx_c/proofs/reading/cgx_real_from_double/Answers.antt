@@ -2,7 +2,6 @@
 use mathlib.Core.Path.{ap, ◌∙◌}
 use Rattle.doubles.specs.declared.FromDouble.{FromDouble}
 use Rattle.cgx_c_answers.specs.Told.{real_told}
-use borrow.Author.Rules.{rules}
 use Rattle.cgx_c.proofs.reading.cgx_real_from_double.Goals as goal
 
 pub returns : goal.returns

@@ -2,7 +2,6 @@
 use mathlib.Core.Path.{ap, ◌∙◌}
 use Rattle.cgx_read_walk.specs.declared.Started.{Started}
 use Rattle.cgx_c_answers.specs.Told.{start_told}
-use borrow.Author.Rules.{rules}
 use Rattle.cgx_c.proofs.reading.cgx_start.Goals as goal
 
 pub returns : goal.returns

@@ -4,7 +4,6 @@ use lib.ListN.{length}
 use Rattle.cgx_format_kinds.specs.declared.TextSpan.{TextSpan}
 use Rattle.cgx_read_lists.specs.Lists.{within}
 use Rattle.cgx_c_answers.specs.Told.{inside_told}
-use borrow.Author.Rules.{rules}
 use Rattle.cgx_c.proofs.reading.cgx_text_inside.Goals as goal
 
 pub returns : goal.returns

@@ -8,7 +8,6 @@ use Rattle.cgx_c_writer.specs.Parts.{frame_around}
 use Rattle.cgx_write_given.specs.Typed.{AllWell}
 use Rattle.cgx_write_makers.specs.Makers.{frame_calls, all_in}
 use Rattle.cgx_c.proofs.Calls.{called}
-use borrow.Author.Rules.{rules}
 use Rattle.cgx_c.proofs.writing.cgx_write_caption_frame.Goals as goal
 
 pub returns : goal.returns

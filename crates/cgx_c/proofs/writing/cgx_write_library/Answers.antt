@@ -5,7 +5,6 @@ use Rattle.cgx_c_writer.specs.Parts.{date_in, real_in}
 use Rattle.cgx_write_given.specs.Typed.{WellTyped}
 use Rattle.cgx_write_given.specs.Writing.{call_in}
 use Rattle.cgx_c.proofs.Calls.{called}
-use borrow.Author.Rules.{rules}
 use Rattle.cgx_c.proofs.writing.cgx_write_library.Goals as goal
 
 pub returns : goal.returns

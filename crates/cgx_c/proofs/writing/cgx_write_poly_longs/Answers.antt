@@ -4,7 +4,6 @@ use Rattle.cgx_write_given.specs.Given.{given_poly}
 use Rattle.cgx_write_given.specs.Typed.{WellTyped}
 use Rattle.cgx_write_given.specs.Writing.{call_in}
 use Rattle.cgx_c.proofs.Calls.{called}
-use borrow.Author.Rules.{rules}
 use Rattle.cgx_c.proofs.writing.cgx_write_poly_longs.Goals as goal
 
 pub returns : goal.returns

@@ -8,7 +8,6 @@ use Rattle.cgx_c_writer.specs.Parts.{card_around}
 use Rattle.cgx_write_given.specs.Typed.{AllWell}
 use Rattle.cgx_write_makers.specs.Makers.{card_calls, all_in}
 use Rattle.cgx_c.proofs.Calls.{called}
-use borrow.Author.Rules.{rules}
 use Rattle.cgx_c.proofs.writing.cgx_write_test_card.Goals as goal
 
 pub returns : goal.returns

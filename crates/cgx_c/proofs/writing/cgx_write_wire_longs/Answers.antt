@@ -7,7 +7,6 @@ use Rattle.cgx_write_given.specs.Given.{given_wire}
 use Rattle.cgx_write_given.specs.Typed.{WellTyped}
 use Rattle.cgx_write_given.specs.Writing.{call_in}
 use Rattle.cgx_c.proofs.Calls.{called}
-use borrow.Author.Rules.{rules}
 use Rattle.cgx_c.proofs.writing.cgx_write_wire_longs.Goals as goal
 
 pub returns : goal.returns

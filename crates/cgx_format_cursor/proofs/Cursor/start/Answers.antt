@@ -4,7 +4,6 @@ use Rattle.cgx_format_cursor.specs.declared.State.{State}
 use Rattle.cgx_format_cursor.specs.declared.Cursor.{Cursor}
 use Rattle.cgx_format_cursor.specs.Cursors.{cursor_of}
 use mathlib.Core.Path.{ap}
-use borrow.Author.Rules.{rules}
 use Rattle.cgx_format_cursor.proofs.Cursor.start.Goals as goal
 
 pub returns : goal.returns

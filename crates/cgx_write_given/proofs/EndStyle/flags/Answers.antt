@@ -1,7 +1,6 @@
 -- The style that is stated, or the default.
 use mathlib.Core.Path.{sym, ap}
 use Rattle.cgx_write_given.specs.Given.{style_of}
-use borrow.Author.Rules.{rules}
 use Rattle.cgx_write_given.proofs.EndStyle.flags.Goals as goal
 
 pub returns-in-Unstated : goal.returns-in-Unstated
