@@ -1,4 +1,6 @@
 // The rules 8 to 12 of a record's body, a function a kind. Each answers the number of the first rule that is broken, or 0.
+#![tactic(auto)]
+
 ghost use Rattle.std.specs.Prelude.{◌≡◌, true, not, ◌&&◌, ◌||◌, [], ◌∷◌, ◌+◌, ◌≤◌, length, take, drop};
 ghost use Rattle.cgx_spec.specs.declared.Kind.TheVariants.{Library as KLibrary, Struct as KStruct, Cprpty as KCprpty, Property as KProperty, Layer as KLayer, Box as KBox, Poly as KPoly, Wire as KWire, Text as KText, Sref as KSref, Endlib as KEndlib};
 ghost use Rattle.cgx_spec.specs.Numbers.{longs_of};

@@ -1,4 +1,6 @@
 // The rules 6 to 12 of a record.
+#![tactic(auto)]
+
 ghost use Rattle.std.specs.Prelude.{◌≡◌};
 ghost use Rattle.cgx_spec.specs.Kinds.{good_flags};
 ghost use Rattle.cgx_format_bodies.specs.Bodies.{body_fault, Body};

@@ -1,0 +1,17 @@
+-- Three longs and a string.
+use mathlib.Core.Path.{refl}
+use native.Mathlib.Omega.{arith}
+use Rattle.cgx_spec.specs.declared.Kind.TheVariants.{Text}
+use Rattle.cgx_format_bodies.proofs.Faults.{fault-8, fault-on, alone}
+use Rattle.cgx_spec.specs.Fields.{width, keeps, rule_of, good, passes}
+use Rattle.cgx_spec.specs.Kinds.{layout}
+use borrow.Author.Rules.{rules}
+use Rattle.cgx_format_bodies.proofs.text_fault.Goals as goal
+
+pub returns-then-b-lt-MIN_SIZE : goal.returns-then-b-lt-MIN_SIZE
+unfolding layout width
+returns-then-b-lt-MIN_SIZE c = fault-8 Text c.args.fl c.args.b.now tt (λ r. omega arith)
+
+pub returns : goal.returns
+unfolding layout width keeps rule_of good passes
+returns c = fault-on Text c.args.fl c.args.b.now _ _ _ _ tt (search rules) c.first_broken.ensures refl refl (alone c.string_good-label.ensures) refl
