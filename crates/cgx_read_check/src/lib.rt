@@ -1,4 +1,6 @@
 // The whole-file checker, with the length of the normal form on the way.
+#![tactic(auto)]
+
 ghost use Rattle.std.specs.Prelude.{◌≡◌};
 ghost use Rattle.cgx_spec.specs.Numbers.{Bytes};
 ghost use Rattle.cgx_spec.specs.Files.{verdict_of};

@@ -1,5 +1,7 @@
 // The typed fields of a record, read from the file: one small function a kind, each with the offsets of 01's table.
 // Texts and lists are told by their offsets in the file.
+#![tactic(auto)]
+
 ghost use Rattle.std.specs.Prelude.{◌≡◌, true, cond, ◌+◌, ◌-◌, ◌*◌, ◌%◌, ◌≤◌, ◌<◌, length, take, drop};
 ghost use Rattle.cgx_spec.specs.Numbers.{long_of};
 ghost use Rattle.cgx_spec.specs.Fields.{date, string, optional, value, pieces, values};

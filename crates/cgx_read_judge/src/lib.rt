@@ -1,5 +1,7 @@
 // The judge: one record of a file at an offset, after a phase. With one caller in a program it is compiled into the caller's loop. With two it
 // is not, and a record costs 8 ns more.
+#![tactic(auto)]
+
 ghost use Rattle.std.specs.Prelude.{◌≡◌, ◌≤◌, length};
 ghost use Rattle.cgx_read_judge.specs.Judging.{Judges};
 

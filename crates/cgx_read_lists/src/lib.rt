@@ -1,4 +1,6 @@
 // What a view's lists and texts say: the i-th box or point, and the bytes of a text. Every file and every list or span is answered, a made-up one too.
+#![tactic(auto)]
+
 ghost use Rattle.std.specs.Prelude.{◌≡◌, ◌<◌, length};
 ghost use Rattle.cgx_read_lists.specs.Lists.{item_inside, box_of, point_of, within, span_bytes, span_ptr};
 

@@ -1,4 +1,6 @@
 // The sequence of an accepted file: its known records one after another, not judged again.
+#![tactic(auto)]
+
 ghost use Rattle.std.specs.Prelude.{◌≡◌};
 ghost use Rattle.cgx_read_sequence.specs.Sequence.{Along, NextIn};
 

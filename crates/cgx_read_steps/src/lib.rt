@@ -1,4 +1,6 @@
 // One record of a file after a state, as the definitions of the walk and the judge have it: what a step comes to. Its laws are in proofs/.
+#![tactic(auto)]
+
 use cgx_format_headers::Header;
 use cgx_spec::Verdict;
 

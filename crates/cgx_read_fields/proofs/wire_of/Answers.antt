@@ -1,0 +1,24 @@
+-- `cgx_read_fields::wire_of` is right: the width is read where the layout has it, and the repeat is what follows. Assumes nothing.
+use mathlib.Core.Path.{refl, ◌∙◌}
+use native.Mathlib.Omega.{arith}
+use Rattle.cgx_spec.specs.Fields.{width, value, values}
+use Rattle.cgx_spec.specs.Kinds.{layout}
+use Rattle.cgx_format_kinds.specs.Meant.{field_values, fields_kind}
+use Rattle.cgx_read_fields.specs.Views.{FieldsAt, pieces_at, values_at}
+use Prim.Native.Nat.{◌+◌, ◌-◌}
+use mir.Syntax.{w32}
+use Rattle.numbers.proofs.Signed.{back}
+use Rattle.cgx_read_fields.proofs.Parts.{◌then◌, long-value, list-value}
+use Rattle.cgx_read_fields.proofs.wire_of.Goals as goal
+
+pub returns : goal.returns
+unfolding FieldsAt field_values fields_kind values_at layout pieces_at width values value
+returns c fl = let s = c in
+    record {
+      meant =
+          long-value s.args.f.now (s.args.at + 4) (omega arith) (back w32 c.long_at-width.type_inv ∙ c.long_at-width.ensures)
+          then list-value 8 s.args.f.now (s.args.at + 8) (s.args.size - 8) c.list_of-points.result c.list_of-points.ensures
+          then refl;
+      kind-is = refl;
+      located = (c.list_of-points.ensures.0, omega arith);
+    }
