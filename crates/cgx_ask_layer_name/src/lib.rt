@@ -1,4 +1,6 @@
 // The name shown for a layer: a part of the file, or of a substitute text that the caller lends.
+#![tactic(auto)]
+
 ghost use Rattle.std.specs.Prelude.{◌≡◌};
 ghost use Rattle.std.proofs.Math.Option.{some};
 ghost use Rattle.cgx_format_headers.specs.Headers.{kind_in};

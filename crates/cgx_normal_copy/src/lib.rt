@@ -1,5 +1,7 @@
 // One record copied in normal form: its bytes as they are, then the flags that are meant and the normal reals stored
 // over them. A large record is one vector loop.
+#![tactic(auto)]
+
 ghost use Rattle.std.specs.Prelude.{◌≡◌, ◌+◌, ◌≤◌, length, drop, set};
 ghost use Rattle.cgx_spec.specs.Kinds.{text_place, text_flags, flags_of};
 ghost use Rattle.cgx_spec.specs.Records.{bytes_of, normal_of};

@@ -1,4 +1,6 @@
 // The view of a good record: its fields, and the offsets of its cell, layer and properties.
+#![tactic(auto)]
+
 ghost use Rattle.std.specs.Prelude.{◌≡◌};
 ghost use Rattle.std.proofs.Math.Option.{some};
 ghost use Rattle.cgx_spec.specs.Order.{next};

@@ -1,4 +1,6 @@
 // A walk over a file: from the start, one known record at a step.
+#![tactic(auto)]
+
 ghost use Rattle.std.specs.Prelude.{◌≡◌, List, ℕ};
 ghost use Rattle.cgx_spec.specs.Walking.{ending};
 ghost use Rattle.cgx_format_cursor.specs.Cursors.{context_in};

@@ -1,0 +1,44 @@
+-- The tests of `good_layer` in its order; the rules 9, 10 and 12 have nothing to say of a LAYER.
+use native.Mathlib.Omega.{arith}
+use borrow.Author.Tests.{not-true, not-false}
+use Rattle.cgx_format_headers.proofs.Heads.{header-in}
+use Rattle.cgx_read_steps.proofs.Steps.{held-body}
+use Rattle.cgx_ask_layer_name.proofs.Layers.{low, odd, beyond, no_record, other-type, faulty, present-good}
+use borrow.Author.Rules.{rules}
+use Rattle.cgx_ask_layer_name.proofs.layer_size.Goals as goal
+
+pub returns-then-at-lt4 : goal.returns-then-at-lt4
+returns-then-at-lt4 c = low c.args.file.now c.args.at (omega arith)
+
+pub returns-then-at-eq1 : goal.returns-then-at-eq1
+returns-then-at-eq1 c = odd c.args.file.now c.args.at (omega arith) c.if-at-eq1.true
+
+pub returns-then-file-at : goal.returns-then-file-at
+returns-then-file-at c = beyond c.args.file.now c.args.at (omega arith) c.if-at-eq1.false c.if-file-at.true
+
+pub returns-then-not-is_layer : goal.returns-then-not-is_layer
+returns-then-not-is_layer c = other-type c.args.file.now c.args.at (omega arith) c.if-at-eq1.false c.header_at-found.result c.header_at-found.ensures c.in-Good.is c.is_layer.ensures c.if-not-is_layer.true
+
+pub overflow_add-to : goal.overflow_add-to
+overflow_add-to c = let h = (header-in c.args.file.now c.args.at c.header_at-found.ensures c.in-Good.is).held in let a = h.least in let i = h.inside in omega arith
+
+pub slice_bounds-body_fault-count : goal.slice_bounds-body_fault-count
+slice_bounds-body_fault-count c = let h = (header-in c.args.file.now c.args.at c.header_at-found.ensures c.in-Good.is).held in let a = h.least in let i = h.inside in omega arith
+
+pub slice_bounds-body_fault-start : goal.slice_bounds-body_fault-start
+slice_bounds-body_fault-start c = let h = (header-in c.args.file.now c.args.at c.header_at-found.ensures c.in-Good.is).held in let a = h.least in let i = h.inside in omega arith
+
+pub slice_bounds-body_fault-end : goal.slice_bounds-body_fault-end
+slice_bounds-body_fault-end c = let h = (header-in c.args.file.now c.args.at c.header_at-found.ensures c.in-Good.is).held in let a = h.least in let i = h.inside in omega arith
+
+pub body_fault-fault-requires : goal.body_fault-fault-requires
+body_fault-fault-requires c = held-body c.args.file.now c.args.at _ (header-in c.args.file.now c.args.at c.header_at-found.ensures c.in-Good.is).held
+
+pub returns-in-Bad : goal.returns-in-Bad
+returns-in-Bad c = no_record c.args.file.now c.args.at (omega arith) c.if-at-eq1.false c.header_at-found.result c.header_at-found.ensures c.in-Bad.is
+
+pub returns-then-fault-eq0 : goal.returns-then-fault-eq0
+returns-then-fault-eq0 c = present-good c.args.file.now c.args.at (omega arith) c.if-at-eq1.false c.header_at-found.result c.header_at-found.ensures c.in-Good.is c.is_layer.ensures c.if-not-is_layer.false c.body_fault-fault.ensures c.if-fault-eq0.true
+
+pub returns-else-fault-eq0 : goal.returns-else-fault-eq0
+returns-else-fault-eq0 c = faulty c.args.file.now c.args.at (omega arith) c.if-at-eq1.false c.header_at-found.result c.header_at-found.ensures c.in-Good.is c.is_layer.ensures c.if-not-is_layer.false c.body_fault-fault.ensures c.if-fault-eq0.false
