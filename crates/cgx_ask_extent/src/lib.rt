@@ -1,5 +1,7 @@
 // The extent of a cell: the least rectangle around its boxes, polygon points and wire points. The file is checked first; then its known
 // records are gone through, up to the end of the cell.
+#![tactic(auto)]
+
 ghost use Rattle.std.specs.Prelude.{◌≡◌, ◌≤◌, length, drop};
 ghost use Rattle.cgx_spec.specs.Numbers.{longs_of};
 ghost use Rattle.cgx_spec.specs.Files.{Accepted};

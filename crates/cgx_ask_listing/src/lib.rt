@@ -1,4 +1,6 @@
 // What the lister prints of a file: the offset and the name of each good known record, a line each, and the verdict.
+#![tactic(auto)]
+
 ghost use Rattle.std.specs.Prelude.{◌≡◌, ◌+◌, ◌≤◌, ◌<◌, length};
 ghost use Rattle.cgx_spec.specs.Files.{opening};
 ghost use Rattle.cgx_format_headers.specs.Headers.{kind_in};

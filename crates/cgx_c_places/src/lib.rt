@@ -1,4 +1,6 @@
 // Places in a C caller's memory. A caller lends a cgx_place of include/cgx.h, which is taken as six words of eight bytes, and a number for the offset that a refusal names.
+#![tactic(auto)]
+
 ghost use Rattle.std.specs.Prelude.{◌≡◌, ◌≤◌};
 ghost use Rattle.cgx_format_cursor.specs.Cursors.{first_of};
 ghost use Rattle.cgx_c_places.specs.Words.{bit as bit_of, seen_word, cursor_words, cursor_in, told_at};

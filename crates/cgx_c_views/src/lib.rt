@@ -1,5 +1,7 @@
 // Views in a C caller's memory, as words of eight bytes: a store for each kind, of no more than the kind has. A long is widened where it is stored, and nothing is
 // calculated with it here.
+#![tactic(auto)]
+
 ghost use Rattle.std.specs.Prelude.{◌≡◌, ◌∷◌, ◌+◌, ◌*◌, ◌^◌, ◌<◌, ◌≤◌};
 ghost use Rattle.cgx_spec.specs.Kinds.{type_for};
 ghost use Rattle.buffers.specs.Put.{put};

@@ -1,4 +1,6 @@
 // The normal-form maker.
+#![tactic(auto)]
+
 ghost use Rattle.std.specs.Prelude.{◌≡◌, ◌≤◌, length};
 ghost use Rattle.cgx_spec.specs.Files.{Accepted, normal_form};
 ghost use Rattle.buffers.specs.Put.{put};

@@ -1,5 +1,6 @@
-// A reader that holds a file's bytes and its place in a walk over them, thin over `step`. The borrow checker covers no function over
-// such a struct, so each is proved by hand. `read_next` and `read_on` have plain parameters, and ask no such proof of their callers.
+// A reader that holds a file's bytes and its place in a walk over them, thin over `step`. `read_next` and `read_on` have plain parameters.
+#![tactic(auto)]
+
 ghost use Rattle.std.specs.Prelude.{◌≡◌};
 ghost use Rattle.cgx_read_walk.specs.Walk.{StepMade};
 ghost use Rattle.cgx_read_reader.specs.Reading.{left_at, Moves};

@@ -1,5 +1,7 @@
 // What a call of the writer is given, and what it answers: the types that the definitions in specs/ and the writer's code share. And what plans, stores
 // and calls share: a date's bytes, that a list of longs is one, and the size of each kind's record.
+#![tactic(auto)]
+
 ghost use Rattle.std.specs.Prelude.{◌≡◌, ◌+◌, ◌*◌, ◌/◌, length};
 ghost use Rattle.cgx_write_given.specs.Given.{date_bytes, style_of, property_kind};
 ghost use Rattle.cgx_write_given.specs.Typed.{Longs};

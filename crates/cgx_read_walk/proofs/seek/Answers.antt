@@ -32,7 +32,7 @@ pub returns-in-Known : goal.returns-in-Known
 returns-in-Known c = seek-known c.args.file.now c.args.place c.loop-number.at c.loop-number.invariant.3 c.if-s.false c.header_at-found.ensures c.in-Good.is c.in-Known.is c.loop-number.invariant.1 c.loop-number.invariant.2
 
 pub returns-then-not-s : goal.returns-then-not-s
-returns-then-not-s c = seek-early c.args.file.now c.args.place c.loop-number.at c.loop-number.invariant.3 c.if-s.false c.header_at-found.ensures c.in-Good.is c.in-Unknown.is c.if-not-s.true
+returns-then-not-s c = seek-early c.args.file.now c.args.place c.loop-number.at c.loop-number.invariant.3 c.if-s.false c.header_at-found.ensures c.in-Good.is c.in-Unknown.is (not-true c.args.place.state.library c.if-not-s.true)
 
 pub overflow_add-at : goal.overflow_add-at
 overflow_add-at c = let h = (header-in c.args.file.now c.loop-number.at c.header_at-found.ensures c.in-Good.is).held in let l = h.least in let i = h.inside in omega arith
@@ -41,4 +41,4 @@ pub loop-number-smaller : goal.loop-number-smaller
 loop-number-smaller c = let h = (header-in c.args.file.now c.loop-number.at c.header_at-found.ensures c.in-Good.is).held in let l = h.least in let i = h.inside in omega arith
 
 pub loop-number-preserved : goal.loop-number-preserved
-loop-number-preserved c = let h = (header-in c.args.file.now c.loop-number.at c.header_at-found.ensures c.in-Good.is).held in let l = h.least in let i = h.inside in (omega arith, omega arith, omega arith, seek-on c.args.file.now c.args.place c.loop-number.at c.loop-number.invariant.3 c.if-s.false c.header_at-found.ensures c.in-Good.is c.in-Unknown.is c.if-not-s.false)
+loop-number-preserved c = let h = (header-in c.args.file.now c.loop-number.at c.header_at-found.ensures c.in-Good.is).held in let l = h.least in let i = h.inside in (omega arith, omega arith, omega arith, seek-on c.args.file.now c.args.place c.loop-number.at c.loop-number.invariant.3 c.if-s.false c.header_at-found.ensures c.in-Good.is c.in-Unknown.is (not-false c.args.place.state.library c.if-not-s.false))

@@ -1,0 +1,11 @@
+-- Its fields in turn.
+use mathlib.Core.Path.{ap, ◌∙◌}
+use mir.Syntax.{w32}
+use Rattle.numbers.proofs.Signed.{back}
+use Rattle.cgx_c_views.specs.ViewWords.{long_bits, span_words}
+use Rattle.cgx_c_views.proofs.Stored.{one_more}
+use borrow.Author.Rules.{rules}
+use Rattle.cgx_c_views.proofs.put_property.Goals as goal
+
+pub returns : goal.returns
+returns c = let a = c.args in one_more a.w.now (long_bits a.number) (span_words a.value) _ _ (c.long_word.ensures.value ∙ ap long_bits (back w32 c.ranges.number.sfits)) c.put_span.ensures
