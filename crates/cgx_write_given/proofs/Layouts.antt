@@ -127,11 +127,11 @@ pieces_are [] ends-text t = absurd t
 pieces_are [] ends-name t = absurd t
 pieces_are [] (ends-many e l) t = absurd t
 pieces_are (i ∷ is) ends t = absurd t
-pieces_are (i ∷ is) (fixed {n = n} {f = f} {fs = fs} x s) t =
+pieces_are {b = b} (i ∷ is) (fixed {n = n} {f = f} {fs = fs} x s) t =
     let a = stored i in
     let r = join stored is in
     let q : length a ≡ n = fixed-length x t.0 in
-    rw (fixed-width (length (a ++ r)) x, take_at a r n q, drop_at a r n q, pieces_are is s t.1)
+    rw (fixed-width (length (a ++ r)) x, take_at a r n q, drop_at a r n q, pieces_are {b = b + n} is s t.1)
 pieces_are (i ∷ j ∷ is) ends-text t = absurd t.1
 pieces_are (i ∷ j ∷ is) ends-name t = absurd t.1
 pieces_are (i ∷ j ∷ is) (ends-many e l) t = absurd t.1
@@ -192,10 +192,10 @@ fit-law [] ends-text t h = absurd t
 fit-law [] ends-name t h = absurd t
 fit-law [] (ends-many e l) t h = absurd t
 fit-law (i ∷ is) ends t h = absurd t
-fit-law (i ∷ is) (fixed {b = b} {n = n} {f = f} {fs = fs} x s) t h =
+fit-law {b = b} (i ∷ is) (fixed {n = n} {f = f} {fs = fs} x s) t h =
     let q : length (stored i) ≡ n = fixed-length x t.0 in
     let k : b + n + length (join stored is) ≤ 65530 = omega (arith, length-append (stored i) (join stored is)) in
-    ap₂ ◌&&◌ (ap (fits f) q ∙ fixed-fits x ∙ sym (fixed-enough x t.0)) (fit-law is s t.1 k)
+    ap₂ ◌&&◌ (ap (fits f) q ∙ fixed-fits x ∙ sym (fixed-enough x t.0)) (fit-law {b = b + n} is s t.1 k)
 fit-law (i ∷ j ∷ is) ends-text t h = absurd t.1
 fit-law (i ∷ j ∷ is) ends-name t h = absurd t.1
 fit-law (i ∷ j ∷ is) (ends-many e l) t h = absurd t.1
