@@ -1,5 +1,7 @@
 // What the reading calls tell a C caller: a number, what they fill in lent memory, and the offset that a refusal names. specs/Told.antt has each answer of the
 // library as C is told it.
+#![tactic(auto)]
+
 ghost use Rattle.std.specs.Prelude.{◌≡◌};
 ghost use Rattle.cgx_c_answers.specs.Told.{verdict_told, start_told, list_in, span_in, sides_set, box_told, point_told, inside_told, name_told, rectangle_told, extent_told, length_told, normal_told, double_told, real_told};
 

@@ -1,4 +1,6 @@
 // The fields of a record, judged and stored in a C caller's view as they are read: a value that holds those of any kind would be copied at each step.
+#![tactic(auto)]
+
 ghost use Rattle.std.specs.Prelude.{◌≡◌, true, cond, ◌+◌, ◌-◌, ◌≤◌, length};
 ghost use Rattle.cgx_spec.specs.Walking.{Held, rec_at};
 ghost use Rattle.cgx_format_bodies.specs.Bodies.{body_fault};

@@ -1,4 +1,6 @@
 // A step of a walk in a C caller's memory: over the place, the view and the number for an offset that it lends.
+#![tactic(auto)]
+
 ghost use Rattle.std.specs.Prelude.{◌≡◌};
 ghost use Rattle.cgx_read_walk.specs.Walk.{Reached};
 ghost use Rattle.cgx_c_step.specs.Lent.{answer_at, offset_at, StepLent, RecordIf};

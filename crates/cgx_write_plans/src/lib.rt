@@ -1,4 +1,6 @@
 // Plans: the checks of a call in their order, and what it answers. A plan looks at no byte of the buffer and stores none.
+#![tactic(auto)]
+
 ghost use Rattle.std.specs.Prelude.{◌≡◌, ◌&&◌, cond, ◌+◌, ◌%◌, ◌≤◌, ◌<◌, eqb, length};
 ghost use Rattle.std.proofs.Math.Option.{none, some};
 ghost use Rattle.std.specs.Int.Signed.{le_z};
