@@ -1,5 +1,7 @@
 // The writer in a C caller's memory. A caller lends a cgx_writer of include/cgx.h, whose words are those of its place, a number for the offset that a refusal names, and the
 // structs that a call is given. specs/Lent.antt says what a call leaves in them, specs/Parts.antt what those structs say.
+#![tactic(auto)]
+
 ghost use Rattle.std.specs.Prelude.{◌≡◌};
 ghost use Rattle.cgx_format_cursor.specs.Cursors.{offset_in};
 ghost use Rattle.cgx_c_places.specs.Words.{told_at};

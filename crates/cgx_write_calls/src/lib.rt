@@ -1,4 +1,6 @@
 // The writer: one record a call, in normal form. A call plans, which only checks, and then stores, which cannot fail; it answers what the plan said.
+#![tactic(auto)]
+
 ghost use Rattle.std.specs.Prelude.{◌≡◌};
 ghost use Rattle.std.proofs.Math.Option.{none, some};
 ghost use Rattle.cgx_write_given.specs.Given.{given_library, given_struct, given_owned, given_cprpty, given_property, given_layer, given_box, given_poly, given_wire, given_text, given_sref, given_endlib};

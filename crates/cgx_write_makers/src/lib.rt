@@ -1,5 +1,7 @@
 // The makers: each appends several records, all or nothing. All are planned, each from the writer after the one before it, before the first is stored. What they give is
 // well typed, as what the writer's calls give is.
+#![tactic(auto)]
+
 ghost use Rattle.std.specs.Prelude.{◌≡◌, [], ◌∷◌, ◌++◌, ◌+◌, ◌*◌, ◌≤◌, length};
 ghost use Rattle.cgx_spec.specs.Records.{bytes_of};
 ghost use Rattle.buffers.specs.Put.{put};

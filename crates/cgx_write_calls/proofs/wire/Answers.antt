@@ -1,0 +1,43 @@
+-- The answer is the plan's; where it is taken, the store is that of the record.
+use mathlib.Core.Path.{ap, ◌∙◌}
+use Prim.Native.Nat.{◌+◌, ◌*◌}
+use Rattle.cgx_write_given.proofs.Sizes.{wire-size}
+use Rattle.cgx_write_given.proofs.Ranges.{long-in, style-in}
+use native.Mathlib.Omega.{arith}
+use lib.IntN.{ℤ}
+use lib.ListN.{length}
+use mir.Syntax.{w32}
+use mir.Val.{to_z, of_z}
+use mir.ValLaws.{to_z-of_z}
+use Rattle.cgx_write_given.specs.Given.{given_wire}
+use Rattle.cgx_write_given.specs.Writing.{call_in}
+use Rattle.cgx_write_given.proofs.Calls.{call-refused, call-taken}
+use Rattle.cgx_write_given.proofs.Calling.{calls-promises}
+use Rattle.cgx_write_plans.proofs.Order.{call_fits}
+use borrow.Author.Rules.{rules}
+use Rattle.cgx_write_calls.proofs.wire.Goals as goal
+
+pub returns-then-answer-ne0 : goal.returns-then-answer-ne0
+returns-then-answer-ne0 c = let s = c in
+    let a = s.args in
+    let z = to_z w32 (of_z w32 a.width) in
+    let q = ap (λ (x : ℤ). call_in a.buf.now a.writer (given_wire a.style x a.points.now)) (to_z-of_z w32 a.width s.ranges.width) in
+    let p = c.plan_wire-answer in
+    record { buf_after = call-refused a.buf.now a.writer (given_wire a.style z a.points.now) p.result p.ensures c.if-answer-ne0.true ∙ q; typed = calls-promises.wire a.style a.width a.points.now (style-in a.style s.well_formed.1.1.0) (long-in a.width s.ranges.width.sfits) c.all_longs.ensures }
+
+pub store_wire-requires : goal.store_wire-requires
+store_wire-requires c = let s = c in
+    let a = s.args in
+    let z = to_z w32 (of_z w32 a.width) in
+    let p = c.plan_wire-answer in
+    let h = call_fits (length a.buf.now) a.writer (given_wire a.style z a.points.now) p.result (8 + 4 * length a.points.now) p.ensures c.if-answer-ne0.false (wire-size a.style z a.points.now) in
+    omega (arith, h.small, h.room)
+
+pub returns : goal.returns
+returns c = let s = c in
+    let a = s.args in
+    let z = to_z w32 (of_z w32 a.width) in
+    let q = ap (λ (x : ℤ). call_in a.buf.now a.writer (given_wire a.style x a.points.now)) (to_z-of_z w32 a.width s.ranges.width) in
+    let p = c.plan_wire-answer in
+    let o = c.store_wire in
+    record { buf_after = call-taken a.buf.now a.writer (given_wire a.style z a.points.now) p.result p.ensures o.new.buf c.if-answer-ne0.false o.ensures ∙ q; typed = calls-promises.wire a.style a.width a.points.now (style-in a.style s.well_formed.1.1.0) (long-in a.width s.ranges.width.sfits) c.all_longs.ensures }
