@@ -12,18 +12,17 @@
 #   make samples  the sample drawings and what `labels` prints of them, made anew under examples/
 #   make clean
 #
-# The archive is proved and built by `rt staticlib`, only where a source is newer than it is. The same run leaves the LLVM
-# module that it is made of, from which the other machines' archives are compiled.
+# The archive is proved and built by `rt lib`, only where a source is newer than it is. The same run of tools/targets/get-module leaves
+# the LLVM module that it is made of, from which the other machines' archives are compiled.
 
 CFLAGS ?= -O2
 LDFLAGS ?= -Wl,--gc-sections
 STRICT := -std=c99 -Wall -Wextra -Werror
 SANITIZE := -g -fsanitize=address,undefined -fno-sanitize-recover=all
 
-ARCHIVE := target/staticlib/libcgx_c.a
-MODULE := target/staticlib/cgx_c.bc
+MODULE := build/cgx_c.bc
 TARGETS := aarch64 armv7 thumb riscv32 wasm32
-SOURCES := crates.txt $(shell find crates -name '*.rt' -o -name '*.antt')
+SOURCES := crates.txt $(shell find crates -name out -prune -o \( -name '*.rt' -o -name '*.antt' \) -print)
 EXAMPLES := build/boxes build/labels build/samples
 TESTS := build/test build/test-sanitized build/labels-sanitized build/vectors build/makers build/freestanding build/stack
 SUITE := $(wildcard tests/c/*.c)
@@ -31,13 +30,8 @@ SUITE_HEADERS := $(wildcard tests/c/*.h) include/cgx.h
 
 all: build/libcgx.a build/cgx $(EXAMPLES)
 
-$(ARCHIVE) $(MODULE) &: $(SOURCES)
-	tools/targets/get-module cgx_c $(MODULE)
-	touch $(ARCHIVE) $(MODULE)
-
-build/libcgx.a: $(ARCHIVE)
-	mkdir -p build
-	cp $< $@
+build/libcgx.a $(MODULE) &: $(SOURCES)
+	tools/targets/get-module cgx_c build/libcgx.a $(MODULE)
 
 build/%: examples/%.c include/cgx.h build/libcgx.a
 	$(CC) $(STRICT) $(CFLAGS) $(CPPFLAGS) -Iinclude $< build/libcgx.a $(LDFLAGS) -o $@
@@ -90,15 +84,15 @@ targets: $(TARGETS)
 
 $(TARGETS): %: build/%-O2/libcgx.a build/%-Oz/libcgx.a
 
-build/%-O2/libcgx.a: $(MODULE) tools/targets/build-target
+build/%-O2/libcgx.a: $(MODULE) tools/targets/build-target tools/targets/compile
 	tools/targets/build-target $* -O2 $(MODULE) $(@D)
 
-build/%-Oz/libcgx.a: $(MODULE) tools/targets/build-target
+build/%-Oz/libcgx.a: $(MODULE) tools/targets/build-target tools/targets/compile
 	tools/targets/build-target $* -Oz $(MODULE) $(@D)
 
 # The checker by itself, for the least flash.
 thumb: build/thumb-check/libcgx.a
-build/thumb-check/libcgx.a: $(MODULE) tools/targets/build-target
+build/thumb-check/libcgx.a: $(MODULE) tools/targets/build-target tools/targets/compile
 	tools/targets/build-target thumb -Oz $(MODULE) $(@D) cgx_check
 
 test-targets: targets build/libcgx.a

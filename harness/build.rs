@@ -1,14 +1,14 @@
 //! Links the archive of the proved crates, and compiles the plain C that it is
 //! measured against.
 //!
-//! The archive is where the kit's build leaves it, beside this folder;
+//! The archive is where `make` leaves it, in the project's build folder;
 //! CGX_ARCHIVE names another one. CC names another C compiler.
 
 use std::env;
 use std::path::{Path, PathBuf};
 use std::process::Command;
 
-const USUAL_PLACE: &str = "../target/staticlib/libcgx_c.a";
+const USUAL_PLACE: &str = "../build/libcgx.a";
 
 fn main() {
     link_archive(&archive());
@@ -21,7 +21,7 @@ fn archive() -> PathBuf {
     let path = named.unwrap_or_else(|| Path::new(env!("CARGO_MANIFEST_DIR")).join(USUAL_PLACE));
     path.canonicalize().unwrap_or_else(|error| {
         panic!(
-            "no archive at {}: {error}; build cgx_c with the kit, or set CGX_ARCHIVE",
+            "no archive at {}: {error}; run make above this folder, or set CGX_ARCHIVE",
             path.display()
         )
     })

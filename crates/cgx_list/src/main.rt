@@ -1,7 +1,9 @@
 // The lister: prints the offset and the name of each good known record of standard input, and then its verdict.
-use cgx_list_io::list_from;
-use libc::STDIN_FILENO;
+#![tactic(auto)]
 
-fn main() {
-    list_from(STDIN_FILENO);
+use cgx_list_io::list_from;
+use std::io;
+
+fn main(rt: HostRuntime) -> io::Result<()> {
+    list_from(&mut rt.stdin(), &mut rt.stdout())
 }

@@ -11,44 +11,78 @@
 //   layer OFFSET "BYTES"   the name shown for each good LAYER, asked at every offset
 //
 // After the end or a refusal one step more is taken, which must answer the same and leave the reader where it is.
+#![tactic(auto)]
+
 mod names;
 mod printing;
 mod reading;
 
+ghost use Rattle.std.specs.Prelude.{◌≤◌, length};
+
 use names::show_names;
 use printing::print;
 use reading::show_reading;
+use std::env::{Env, FillError};
+use std::fs::File;
+use std::io::Read;
+use std::rt::Files;
+use std::{io, str};
 
-fn main() {
-    let n = os::arg_count();
-    for i in 1..n {
-        one(i);
+fn main(rt: HostRuntime) -> io::Result<()> {
+    for i in 1..usize::MAX {
+        if !one(&rt, i)? {
+            break;
+        }
     }
+    Ok(())
 }
 
-// What is said of the file that argument i names.
-fn one(i: usize) {
-    let mut name = io::buffer();
-    let n = os::arg(i, &mut name);
-    print(&name[..n]);
-    print(b"\n");
-    let fd = os::open_read(&name[..n]);
-    if fd < 0 {
-        print(b"cannot be opened\n");
-    } else {
-        show_file(fd);
-        libc::close(fd);
+// What is said of the file that argument i names. Whether there is such an argument.
+fn one<R: Env + Files + Print>(rt: &R, i: usize) -> io::Result<bool> {
+    let mut name = [0u8; 4096];
+    let n = match rt.arg(i, &mut name) {
+        Ok(n) => n,
+        // No path is as long, and no name is shown.
+        Err(FillError::TooLong) => 0,
+        Err(FillError::NotPresent) => return Ok(false),
+    };
+    print(rt, &name[..n])?;
+    print(rt, b"\n")?;
+    match open_named(rt, &name[..n]) {
+        None => print(rt, b"cannot be opened\n")?,
+        Some(mut file) => show_file(rt, &mut file)?,
     }
+    Ok(true)
+}
+
+// The file of this name. std's paths are UTF-8, so that one whose name is not cannot be opened.
+fn open_named<R: Files>(files: &R, name: &[u8]) -> Option<R::File> {
+    let path = str::from_utf8(name).ok()?;
+    File::open(files, path).ok()
 }
 
 // No file is longer than the 4,096 bytes of the buffer.
-fn show_file(fd: i32) {
-    let mut buf = io::buffer();
-    let n = io::read_full(fd, &mut buf);
-    show(&buf[..n]);
+fn show_file<P: Print, F: Read>(rt: &P, file: &mut F) -> io::Result<()> {
+    let mut buf = [0u8; 4096];
+    let n = read_full(file, &mut buf);
+    show(rt, &buf[..n])
 }
 
-fn show(file: &[u8]) {
-    show_reading(file);
-    show_names(file);
+// Reads until the buffer is full, the input ends or a read fails: how many bytes are at its beginning then.
+fn read_full<F: Read>(file: &mut F, buf: &mut [u8]) -> usize
+    ensures { result ≤ length buf.new }
+{
+    let mut done = 0;
+    while done < buf.len() {
+        match file.read(&mut buf[done..]) {
+            Ok(0) | Err(_) => break,
+            Ok(n) => done += n,
+        }
+    }
+    done
+}
+
+fn show(rt: &impl Print, file: &[u8]) -> io::Result<()> {
+    show_reading(rt, file)?;
+    show_names(rt, file)
 }

@@ -1,25 +1,27 @@
 // The names shown for the layers of a file, as the parts of the file or of the substitute that they are.
 use crate::printing::{print, quoted, then_size};
 use cgx_ask_layer_name::{layer_at, layer_name};
+use std::io;
 
 // Every offset is asked, and the end.
-pub fn show_names(file: &[u8]) {
+pub fn show_names(rt: &impl Print, file: &[u8]) -> io::Result<()> {
     let n = file.len();
     for at in 0..n {
-        show_name(file, at);
+        show_name(rt, file, at)?;
     }
-    show_name(file, n);
+    show_name(rt, file, n)
 }
 
 // Where there is no good LAYER, nothing is said unless a name is shown.
-fn show_name(file: &[u8], at: usize) {
+fn show_name(rt: &impl Print, file: &[u8], at: usize) -> io::Result<()> {
     let name = layer_name(file, at, b"unnamed");
     let answer = layer_at(file, at);
     if answer == 0 {
-        print(b"layer");
-        then_size(at);
-        quoted(name);
+        print(rt, b"layer")?;
+        then_size(rt, at)?;
+        quoted(rt, name)?;
     } else if answer != 16 || name.len() != 0 {
-        print(b"no layer, but a name\n");
+        print(rt, b"no layer, but a name\n")?;
     }
+    Ok(())
 }

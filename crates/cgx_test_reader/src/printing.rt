@@ -1,43 +1,42 @@
-// Numbers, texts, refusals and places. `then_` prints a space first. No contract can speak of what is written: each function is safe
-// and ends.
+// Numbers, texts, refusals and places. `then_` prints a space first. No contract can speak of what is printed: each function is safe
+// and ends, with an error where a write fails.
 use cgx_spec::Offset;
-use libc::STDOUT_FILENO;
+use std::io;
 
-pub fn print(text: &[u8]) {
-    io::write_all(STDOUT_FILENO, text);
+pub fn print(rt: &impl Print, text: &[u8]) -> io::Result<()> {
+    rt.write_all(text)
 }
 
-pub fn then_size(n: usize) {
-    then_number(n as u64);
+pub fn then_size(rt: &impl Print, n: usize) -> io::Result<()> {
+    then_number(rt, n as u64)
 }
 
-fn then_number(n: u64) {
-    print(b" ");
-    io::print_decimal(STDOUT_FILENO, n);
+fn then_number(rt: &impl Print, n: u64) -> io::Result<()> {
+    print!(rt; " {n}")
 }
 
 // A text, at the end of a line.
-pub fn quoted(text: &[u8]) {
-    print(b" \"");
-    print(text);
-    print(b"\"\n");
+pub fn quoted(rt: &impl Print, text: &[u8]) -> io::Result<()> {
+    print(rt, b" \"")?;
+    print(rt, text)?;
+    print(rt, b"\"\n")
 }
 
-pub fn show_refusal(n: u8, at: Offset) {
-    print(b"refused");
-    then_number(n as u64);
+pub fn show_refusal(rt: &impl Print, n: u8, at: Offset) -> io::Result<()> {
+    print(rt, b"refused")?;
+    then_number(rt, n as u64)?;
     match at {
-        Offset::Nowhere => print(b"\n"),
+        Offset::Nowhere => print(rt, b"\n"),
         Offset::At(place) => {
-            print(b" at");
-            then_size(place);
-            print(b"\n");
+            print(rt, b" at")?;
+            then_size(rt, place)?;
+            print(rt, b"\n")
         }
     }
 }
 
-pub fn show_place(at: usize) {
-    print(b"  place");
-    then_size(at);
-    print(b"\n");
+pub fn show_place(rt: &impl Print, at: usize) -> io::Result<()> {
+    print(rt, b"  place")?;
+    then_size(rt, at)?;
+    print(rt, b"\n")
 }

@@ -6,28 +6,27 @@ use cgx_read_lists::text_bytes;
 use cgx_read_reader::{read_next, read_on};
 use cgx_read_walk::{Outcome, Started, start};
 use cgx_spec::Offset;
+use std::io;
 
-pub fn show_reading(file: &[u8]) {
+pub fn show_reading(rt: &impl Print, file: &[u8]) -> io::Result<()> {
     match start(file) {
-        Started::Ready(place) => read_from(file, place),
-        Started::Refused { number, at } => show_refusal(number, Offset::At(at)),
+        Started::Ready(place) => read_from(rt, file, place),
+        Started::Refused { number, at } => show_refusal(rt, number, Offset::At(at)),
     }
 }
 
 // A record takes at least a byte, so that there are enough turns for each record and the end.
-fn read_from(file: &[u8], first: Cursor) {
+fn read_from(rt: &impl Print, file: &[u8], first: Cursor) -> io::Result<()> {
     let mut place = first;
-    let mut turns = file.len();
-    while turns > 0 {
-        let step = show_step(file, place);
+    for _ in 0..file.len() {
+        let step = show_step(rt, file, place)?;
         place = step.place;
         if !step.more {
-            show_step(file, place);
-            return;
+            show_step(rt, file, place)?;
+            return Ok(());
         }
-        turns -= 1;
     }
-    print(b"without end\n");
+    print(rt, b"without end\n")
 }
 
 // Where a reader is after a step, and whether it was given a record.
@@ -38,47 +37,47 @@ struct Shown {
 }
 
 // One step of a reader at this place.
-fn show_step(file: &[u8], place: Cursor) -> Shown {
-    print(b"peek");
-    show_outcome(file, read_next(file, place));
+fn show_step(rt: &impl Print, file: &[u8], place: Cursor) -> io::Result<Shown> {
+    print(rt, b"peek")?;
+    show_outcome(rt, file, read_next(file, place))?;
     let moved = read_on(file, place);
     let outcome = moved.outcome;
     let after = moved.place;
-    print(b"next");
-    let more = show_outcome(file, outcome);
-    show_place(after.at);
-    Shown { more, place: after }
+    print(rt, b"next")?;
+    let more = show_outcome(rt, file, outcome)?;
+    show_place(rt, after.at)?;
+    Ok(Shown { more, place: after })
 }
 
 // Whether it is a record.
-fn show_outcome(file: &[u8], o: Outcome) -> bool {
+fn show_outcome(rt: &impl Print, file: &[u8], o: Outcome) -> io::Result<bool> {
     match o {
         Outcome::Record(view, _) => {
             let fields = view.fields;
-            then_size(view.at);
-            show_label(file, fields);
-            true
+            then_size(rt, view.at)?;
+            show_label(rt, file, fields)?;
+            Ok(true)
         }
         Outcome::Done => {
-            print(b" done\n");
-            false
+            print(rt, b" done\n")?;
+            Ok(false)
         }
         Outcome::Refused {
             number,
             at,
             place: _,
         } => {
-            print(b" ");
-            show_refusal(number, at);
-            false
+            print(rt, b" ")?;
+            show_refusal(rt, number, at)?;
+            Ok(false)
         }
     }
 }
 
-fn show_label(file: &[u8], f: Fields) {
+fn show_label(rt: &impl Print, file: &[u8], f: Fields) -> io::Result<()> {
     if let Fields::Text(r) = f {
-        quoted(text_bytes(file, r.label));
+        quoted(rt, text_bytes(file, r.label))
     } else {
-        print(b"\n");
+        print(rt, b"\n")
     }
 }

@@ -1,9 +1,10 @@
 //! Runs the proved lister on every file of the vectors, and compares what it
 //! prints with the reference's listing.
 //!
-//! The program is `target/bin/cgx_list` of the project, which `rt check
-//! cgx_list` builds; `listings PROGRAM` tries another one. It names each file
-//! whose listing differs, and its last line is `N passed, M failed`.
+//! The program is `crates/cgx_list/out/cgx_list` of the project, which `rt run`
+//! in that crate's folder builds, and `rt ci` too; `listings PROGRAM` tries
+//! another one. It names each file whose listing differs, and its last line is
+//! `N passed, M failed`.
 
 use std::ffi::OsString;
 use std::io::{self, Write};
@@ -16,7 +17,7 @@ use cgx_harness::vectors::{all, in_project};
 fn main() -> ExitCode {
     let program = std::env::args_os()
         .nth(1)
-        .unwrap_or_else(|| in_project("target/bin/cgx_list").into());
+        .unwrap_or_else(|| in_project("crates/cgx_list/out/cgx_list").into());
     let (mut passed, mut failed) = (0, 0);
     for case in all().into_iter().flat_map(|(_, cases)| cases) {
         if case.from.is_some() {

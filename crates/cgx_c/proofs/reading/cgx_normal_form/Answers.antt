@@ -1,0 +1,9 @@
+-- What the call answers, as C is told it.
+use mathlib.Core.Path.{ap, ◌∙◌}
+use Rattle.cgx_normal_form.specs.declared.NormalAnswer.{NormalAnswer}
+use Rattle.cgx_c_answers.specs.Told.{normal_told}
+use borrow.Author.Rules.{rules}
+use Rattle.cgx_c.proofs.reading.cgx_normal_form.Goals as goal
+
+pub returns : goal.returns
+returns c = let a = c.args in let n = c.normal_form.ensures in record { at_after = c.tell_normal.ensures ∙ ap (λ (v : NormalAnswer). normal_told v a.length.now a.at.now) n.value; output = n.output }
