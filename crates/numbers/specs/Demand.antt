@@ -1,5 +1,5 @@
 -- Req 06, "old handhelds have 32-bit registers": what is proved of a four-byte number. Statements only. That the code takes no wider step is no statement about what it
--- answers: `tools/widths` and `tools/targets/table` hold it.
+-- answers, and nothing in the gate holds it yet (docs/PORT.md).
 use Rattle.std.specs.Prelude.{◌≡◌, ◌↔◌, List, [], ◌∷◌, ℕ, ◌*◌, ◌-◌, ◌^◌, ◌≤◌, ◌<◌, T, negsuc, length, take, drop}
 use Rattle.cgx_spec.specs.Numbers.{Bytes, number, twos, long_of}
 use Rattle.cgx_spec.specs.Strings.{same}
