@@ -1,13 +1,15 @@
 -- The hull of some points is the least rectangle around them; and the loop over the longs of a body. Assumes nothing.
+use Rattle.std.specs.Prelude.{None, Option, Some}
 use mathlib.Core.Path.{◌≡◌, refl, sym, ap, ap₂, ◌∙◌}
-use mathlib.Core.Bool.{Bool, true, false, cond}
+use mathlib.Core.Bool.{Bool, true, false, not, cond}
 use mathlib.Core.List.{List, [], ◌∷◌, ◌++◌}
 use Prim.Native.Nat.{ℕ, ◌+◌, ◌^◌, ◌≤◌, ◌<◌}
 use native.Mathlib.Omega.{arith}
-use borrow.Author.Tests.{leb-false}
-use lib.Dec.{le→leb, leb→le}
+use borrow.Author.Tests.{leb-true, leb-false, le-ltb, lt-ltb}
+use lib.Dec.{leb, ltb, le→leb, leb→le}
+use Rattle.std.specs.Int.{int_min, int_max}
 use lib.IntN.{ℤ, pos, negsuc}
-use lib.Signed.{mag, le_z, ◌≤ℤ◌, ≤ℤ_refl}
+use lib.Signed.{mag, le_z, lt_z, ◌≤ℤ◌, ≤ℤ_refl}
 use lib.ListN.{length, take, drop, length-drop}
 use mir.Syntax.{Width, w32}
 use mir.Val.{SFits, to_z, of_z, hbits}
@@ -17,9 +19,7 @@ use Rattle.numbers.proofs.Signed.{back}
 use Rattle.cgx_format_fields.proofs.Boxes.{longs-at}
 use Rattle.cgx_spec.proofs.Lists.{true→T, false→¬T}
 use Rattle.cgx_format_kinds.specs.declared.Point.{Point}
-use Rattle.cgx_ask_extent.specs.declared.Sides.{Sides}
-use Rattle.cgx_ask_extent.specs.declared.Rectangle.{Rectangle}
-use Rattle.cgx_ask_extent.specs.declared.Rectangle.TheVariants.{Nothing, Of}
+use Rattle.cgx_format_kinds.specs.declared.Sides.{Sides}
 use Rattle.cgx_ask_extent.specs.Extent.{pairs, min_z, max_z, only, wider, widest, hull, Holds, HoldsAll, Within, Right}
 use Rattle.cgx_ask_extent.specs.Cells.{hull_from}
 
@@ -87,15 +87,32 @@ module _ (a b : ℤ) where
 
 -- ---- what code makes of them: a local of a signed type, read back, is the number
 
-module _ (w : Width) {a b : ℤ} (fa : SFits w a) (fb : SFits w b) {t : Bool} (h : le_z (to_z w (of_z w a)) (to_z w (of_z w b)) ≡ t) where
-  compared : le_z a b ≡ t
-  compared = sym (ap₂ le_z (to_z-of_z w a fa) (to_z-of_z w b fb)) ∙ h
+below : (a b : ℕ) → ltb b a ≡ not (leb a b)
+below a b = go (leb a b) refl
+  where
+    go : (t : Bool) → leb a b ≡ t → ltb b a ≡ not t
+    go true e = le-ltb b a (leb-true a b e)
+    go false e = lt-ltb b a (leb-false a b e)
 
-  pub chosen-min : min_z a b ≡ cond t a b
-  chosen-min = ap (λ (x : Bool). cond x a b) compared
+before : (a b : ℤ) → lt_z b a ≡ not (le_z a b)
+before (pos a) (pos b) = below a b
+before (pos a) (negsuc b) = refl
+before (negsuc a) (pos b) = refl
+before (negsuc a) (negsuc b) = below b a
 
-  pub chosen-max : max_z a b ≡ cond t b a
-  chosen-max = ap (λ (x : Bool). cond x b a) compared
+pub least-is : (a b : ℤ) → int_min a b ≡ min_z a b
+least-is a b = ap (λ (t : Bool). cond t b a) (before a b) ∙ go (le_z a b)
+  where
+    go : (t : Bool) → cond (not t) b a ≡ cond t a b
+    go true = refl
+    go false = refl
+
+pub most-is : (a b : ℤ) → int_max a b ≡ max_z a b
+most-is a b = ap (λ (t : Bool). cond t a b) (before a b) ∙ go (le_z a b)
+  where
+    go : (t : Bool) → cond (not t) a b ≡ cond t b a
+    go true = refl
+    go false = refl
 
 -- one side, of two numbers that code read from fields
 pub side-is : (w : Width) (pick : ℤ → ℤ → ℤ) (a b : ℤ) {r : ℤ} → mag a < 2 ^ hbits w → mag b < 2 ^ hbits w → mag r < 2 ^ hbits w → r ≡ pick (to_z w (of_z w a)) (to_z w (of_z w b)) → to_z w (of_z w r) ≡ pick a b
@@ -175,16 +192,16 @@ unfolding widest
 widest-append s [] qs = refl
 widest-append s (p ∷ ps) qs = widest-append (wider s p) ps qs
 
-pub hull-append : (r : Rectangle) (ps qs : List Point) → hull_from r (ps ++ qs) ≡ hull_from (hull_from r ps) qs
+pub hull-append : (r : Option Sides) (ps qs : List Point) → hull_from r (ps ++ qs) ≡ hull_from (hull_from r ps) qs
 unfolding hull_from hull
-hull-append Nothing [] qs = refl
-hull-append Nothing (p ∷ ps) qs = ap Of (widest-append (only p) ps qs)
-hull-append (Of s) ps qs = ap Of (widest-append s ps qs)
+hull-append None [] qs = refl
+hull-append None (p ∷ ps) qs = ap Some (widest-append (only p) ps qs)
+hull-append (Some s) ps qs = ap Some (widest-append s ps qs)
 
-pub hull-none : (r : Rectangle) → hull_from r [] ≡ r
+pub hull-none : (r : Option Sides) → hull_from r [] ≡ r
 unfolding hull_from hull widest
-hull-none Nothing = refl
-hull-none (Of s) = refl
+hull-none None = refl
+hull-none (Some s) = refl
 
 -- ---- the points of a body, from a byte on
 
@@ -209,7 +226,7 @@ points_on b at h =
     (longs-at b at (at + 4) refl (omega arith)
     ∙ ap (λ (l : List ℤ). long_of (take 4 (drop at b)) ∷ l) (longs-at b (at + 4) (at + 8) (omega arith) h))
 
-few : (l : List ℕ) → length l < 8 → pairs (longs_of l) ≡ []
+pub few : (l : List ℕ) → length l < 8 → pairs (longs_of l) ≡ []
 unfolding pairs longs_of
 few [] h = refl
 few (a ∷ []) h = refl
@@ -224,28 +241,41 @@ few (a ∷ b ∷ c ∷ d ∷ e ∷ f ∷ g ∷ i ∷ l) h = absurd (omega arith)
 pub points-end : (b : List ℕ) (at : ℕ) → length b < at + 8 → points_at b at ≡ []
 points-end b at h = few (drop at b) (omega (arith, length-drop at b))
 
+-- the eight bytes before others are a point
+chunk-point : (p r : List ℕ) → length p ≡ 8 → pairs (longs_of (p ++ r)) ≡ record { x = long_of (take 4 p); y = long_of (take 4 (drop 4 p)) } ∷ pairs (longs_of r)
+unfolding pairs longs_of
+chunk-point [] r h = absurd (omega arith)
+chunk-point (a ∷ []) r h = absurd (omega arith)
+chunk-point (a ∷ b ∷ []) r h = absurd (omega arith)
+chunk-point (a ∷ b ∷ c ∷ []) r h = absurd (omega arith)
+chunk-point (a ∷ b ∷ c ∷ d ∷ []) r h = absurd (omega arith)
+chunk-point (a ∷ b ∷ c ∷ d ∷ e ∷ []) r h = absurd (omega arith)
+chunk-point (a ∷ b ∷ c ∷ d ∷ e ∷ f ∷ []) r h = absurd (omega arith)
+chunk-point (a ∷ b ∷ c ∷ d ∷ e ∷ f ∷ g ∷ []) r h = absurd (omega arith)
+chunk-point (a ∷ b ∷ c ∷ d ∷ e ∷ f ∷ g ∷ i ∷ []) r h = refl
+chunk-point (a ∷ b ∷ c ∷ d ∷ e ∷ f ∷ g ∷ i ∷ j ∷ l) r h = absurd (omega arith)
+
 -- ---- the loop: what is left of the points widens what they have widened so far
 
-module _ (b : List ℕ) (at : ℕ) {w : Sides} (s : Sides) (i : w ≡ widest s (points_at b at)) where
-  pub widest-on : {t : Sides} → at + 8 ≤ length b → t ≡ wider s (point_at b at) → w ≡ widest t (points_at b (at + 8))
-  unfolding widest
-  widest-on h e = i ∙ ap (widest s) (points_on b at h) ∙ ap (λ (x : Sides). widest x (points_at b (at + 8))) (sym e)
+pub widest-on : (l p r : List ℕ) {w : Sides} (s : Sides) {t : Sides} → w ≡ widest s (pairs (longs_of l)) → l ≡ p ++ r → length p ≡ 8 → t ≡ wider s (record { x = long_of (take 4 p); y = long_of (take 4 (drop 4 p)) }) → w ≡ widest t (pairs (longs_of r))
+unfolding widest
+widest-on l p r s i q h e = i ∙ ap (λ (x : List ℕ). widest s (pairs (longs_of x))) q ∙ ap (widest s) (chunk-point p r h) ∙ ap (λ (x : Sides). widest x (pairs (longs_of r))) (sym e)
 
-  pub widest-done : length b < at + 8 → s ≡ w
-  unfolding widest
-  widest-done h = sym (i ∙ ap (widest s) (points-end b at h))
+pub widest-done : (l : List ℕ) {w : Sides} (s : Sides) → w ≡ widest s (pairs (longs_of l)) → length l < 8 → s ≡ w
+unfolding widest
+widest-done l s i h = sym (i ∙ ap (widest s) (few l h))
 
 -- ---- a rectangle and a body
 
-module _ (b : List ℕ) (from : ℕ) (r : Rectangle) where
+module _ (b : List ℕ) (from : ℕ) (r : Option Sides) where
   pub no-points : length b < from + 8 → r ≡ hull_from r (points_at b from)
   no-points h = sym (ap (hull_from r) (points-end b from h) ∙ hull-none r)
 
-  pub first-points : {t u : Sides} → r ≡ Nothing → from + 8 ≤ length b → t ≡ only (point_at b from) → u ≡ widest t (points_at b (from + 8)) → Of u ≡ hull_from r (points_at b from)
+  pub first-points : {t u : Sides} → r ≡ None → from + 8 ≤ length b → t ≡ only (point_at b from) → u ≡ widest t (points_at b (from + 8)) → Some u ≡ hull_from r (points_at b from)
   unfolding hull_from hull
   first-points q h e d =
-      sym (ap (λ (x : Rectangle). hull_from x (points_at b from)) q ∙ ap hull (points_on b from h) ∙ ap (λ (x : Sides). Of (widest x (points_at b (from + 8)))) (sym e) ∙ ap Of (sym d))
+      sym (ap (λ (x : Option Sides). hull_from x (points_at b from)) q ∙ ap hull (points_on b from h) ∙ ap (λ (x : Sides). Some (widest x (points_at b (from + 8)))) (sym e) ∙ ap Some (sym d))
 
-  pub more-points : {s u : Sides} → r ≡ Of s → u ≡ widest s (points_at b from) → Of u ≡ hull_from r (points_at b from)
+  pub more-points : {s u : Sides} → r ≡ Some s → u ≡ widest s (points_at b from) → Some u ≡ hull_from r (points_at b from)
   unfolding hull_from
-  more-points q d = sym (ap (λ (x : Rectangle). hull_from x (points_at b from)) q ∙ ap Of (sym d))
+  more-points q d = sym (ap (λ (x : Option Sides). hull_from x (points_at b from)) q ∙ ap Some (sym d))

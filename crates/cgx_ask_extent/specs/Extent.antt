@@ -1,23 +1,18 @@
 -- 01, "The extent of cell k (from 0) of a file is the least rectangle around its boxes, polygon points and wire points, width ignored, or nothing."
 -- Definitions only.
-use Rattle.std.specs.Prelude.{Bool, true, false, cond, List, [], ◌∷◌, ◌++◌, ℕ, zero, suc, ℤ, ◌≤ℤ◌, drop}
-use Rattle.std.proofs.Math.Option.{Option, none, some}
+use Rattle.std.specs.Prelude.{Bool, true, false, cond, List, [], ◌∷◌, ◌++◌, ℕ, zero, suc, ℤ, ◌≤ℤ◌, drop, None, Option, Some, Ok, Err, Result}
 use Rattle.std.specs.Int.Signed.{le_z}
 use Rattle.cgx_spec.specs.declared.Kind.{Kind}
 use Rattle.cgx_spec.specs.declared.Kind.TheVariants.{Library, Struct, Cprpty, Property, Layer, Box, Poly, Wire, Text, Sref, Endlib}
-use Rattle.cgx_spec.specs.declared.Offset.TheVariants.{Nowhere, At}
-use Rattle.cgx_spec.specs.declared.Verdict.{Verdict}
-use Rattle.cgx_spec.specs.declared.Verdict.TheVariants.{Accepted as accepted, Refused as refused}
+use Rattle.cgx_spec.specs.declared.Refusal.{Refusal}
+use Rattle.cgx_spec.specs.Verdicts.{Verdict, of_file}
+use Rattle.cgx_spec.specs.Verdicts.{accepted, refused}
 use Rattle.cgx_spec.specs.Numbers.{longs_of}
 use Rattle.cgx_spec.specs.Files.{Known, sequence, verdict_of}
 use Rattle.cgx_format_kinds.specs.declared.Point.{Point}
 use Rattle.cgx_ask_extent.specs.declared.ExtentRole.{ExtentRole}
 use Rattle.cgx_ask_extent.specs.declared.ExtentRole.TheVariants.{Opens, Points, Neither}
-use Rattle.cgx_ask_extent.specs.declared.Sides.{Sides}
-use Rattle.cgx_ask_extent.specs.declared.Rectangle.{Rectangle}
-use Rattle.cgx_ask_extent.specs.declared.Rectangle.TheVariants.{Nothing, Of}
-use Rattle.cgx_ask_extent.specs.declared.CellExtent.{CellExtent}
-use Rattle.cgx_ask_extent.specs.declared.CellExtent.TheVariants.{Refused, Found}
+use Rattle.cgx_format_kinds.specs.declared.Sides.{Sides}
 
 -- ---- the points of a record
 
@@ -69,9 +64,9 @@ unfoldable pub widest : Sides → List Point → Sides
 widest s [] = s
 widest s (p ∷ ps) = widest (wider s p) ps
 
-unfoldable pub hull : List Point → Rectangle
-hull [] = Nothing
-hull (p ∷ ps) = Of (widest (only p) ps)
+unfoldable pub hull : List Point → Option Sides
+hull [] = None
+hull (p ∷ ps) = Some (widest (only p) ps)
 
 -- ---- that it is the least
 
@@ -99,11 +94,11 @@ pub record Least (ps : List Point) (s : Sides) : Type 0 where
   pub least : (t : Sides) → HoldsAll t ps → Within s t
 
 -- What is proved of `hull`: nothing for no points, else the least rectangle.
-abbrev pub Right : List Point → Rectangle → Type 0
-Right [] Nothing = Unit {0}
-Right [] (Of s) = ⊥
-Right (p ∷ ps) Nothing = ⊥
-Right (p ∷ ps) (Of s) = Least (p ∷ ps) s
+abbrev pub Right : List Point → Option Sides → Type 0
+Right [] None = Unit {0}
+Right [] (Some s) = ⊥
+Right (p ∷ ps) None = ⊥
+Right (p ∷ ps) (Some s) = Least (p ∷ ps) s
 
 -- ---- the cells of a sequence
 
@@ -119,23 +114,32 @@ up_to_struct (n ∷ ns) = cond (opens (extent_role n.kind)) [] (n ∷ up_to_stru
 
 -- The records of cell k, those after its STRUCT.
 unfoldable pub cell_of : ℕ → List Known → Option (List Known)
-cell_of zero [] = none
-cell_of (suc k) [] = none
-cell_of zero (n ∷ ns) = cond (opens (extent_role n.kind)) (some (up_to_struct ns)) (cell_of zero ns)
+cell_of zero [] = None
+cell_of (suc k) [] = None
+cell_of zero (n ∷ ns) = cond (opens (extent_role n.kind)) (Some (up_to_struct ns)) (cell_of zero ns)
 cell_of (suc k) (n ∷ ns) = cond (opens (extent_role n.kind)) (cell_of k ns) (cell_of (suc k) ns)
 
-unfoldable pub around : Option (List Known) → Option Rectangle
-around none = none
-around (some ns) = some (hull (points ns))
+unfoldable pub around : Option (List Known) → Option (Option Sides)
+around None = None
+around (Some ns) = Some (hull (points ns))
 
 -- ---- the answer
 
+-- The least rectangle around the cell's points, if it has any; or why there is none.
+abbrev pub CellExtent : Type 0
+CellExtent = Result (Option Sides) Refusal
+
+abbrev pub found : Option Sides → CellExtent
+found r = Ok r
+
+abbrev pub not_found : ℕ → Option ℕ → CellExtent
+not_found n at = Err (record { number = n; at = at })
+
 -- "It answers the file's refusal, or 16 where there is no such cell", which names no place.
-unfoldable pub answer_on : Verdict → Option Rectangle → CellExtent
-answer_on accepted none = Refused 16 Nowhere
-answer_on accepted (some r) = Found r
-answer_on (refused n p) none = Refused n (At p)
-answer_on (refused n p) (some r) = Refused n (At p)
+unfoldable pub answer_on : Verdict → Option (Option Sides) → CellExtent
+answer_on (Ok _) None = not_found 16 None
+answer_on (Ok _) (Some s) = found s
+answer_on (Err r) o = Err (of_file r)
 
 unfoldable pub extent_of : List ℕ → ℕ → CellExtent
 extent_of f k = answer_on (verdict_of f) (around (cell_of k (sequence f)))

@@ -1,5 +1,7 @@
 -- Whether there is a good LAYER at an offset, test by test; its name; and what is shown for it. Assumes nothing.
+use Rattle.std.specs.Prelude.{Err, None, Ok, Option, Result, Some}
 use mathlib.Core.Path.{◌≡◌, refl, sym, ap, ◌∙◌, subst}
+use Rattle.std.proofs.lemmas.Option.{none-some}
 use mathlib.Core.Bool.{Bool, true, false, ◌&&◌, cond}
 use mathlib.Core.List.{List, [], ◌∷◌}
 use Prim.Native.Nat.{ℕ, zero, suc, ◌+◌, ◌-◌, ◌%◌, ◌≤◌, ◌<◌}
@@ -15,16 +17,12 @@ use Rattle.cgx_spec.specs.Kinds.{kind_of, layout}
 use Rattle.cgx_spec.specs.Records.{pieces_of, rule, broken}
 use Rattle.cgx_spec.specs.Files.{found, cut}
 use Rattle.cgx_spec.specs.Walking.{rec_at}
-use Rattle.cgx_format_bodies.specs.Bodies.{number_or0, body_fault}
+use Rattle.cgx_format_bodies.specs.Bodies.{body_fault}
 use Rattle.cgx_format_headers.specs.declared.Header.{Header}
-use Rattle.cgx_format_headers.specs.declared.Headed.{Headed}
-use Rattle.cgx_format_headers.specs.declared.Headed.TheVariants.{Bad, Good}
-use Rattle.cgx_format_headers.specs.Headers.{kind_in, cut_meant, HeaderAt, Heads}
+use Rattle.cgx_format_headers.specs.Headers.{cut_meant, HeaderAt, Heads}
 use Rattle.cgx_format_headers.proofs.HeaderLaws.{kind-says, flags-say}
 use Rattle.cgx_format_headers.proofs.Heads.{head-3, header-in}
 use Rattle.cgx_format_kinds.specs.declared.TextSpan.{TextSpan}
-use Rattle.cgx_format_kinds.specs.declared.Name.{Name}
-use Rattle.cgx_format_kinds.specs.declared.Name.TheVariants.{Absent, Present}
 use Rattle.cgx_format_kinds.specs.declared.Layer.{Layer as LayerFields}
 use Rattle.cgx_format_kinds.specs.declared.Fields.TheVariants.{Layer as layer_fields}
 use Rattle.cgx_format_kinds.specs.Meant.{span_text, name_text, field_values}
@@ -33,11 +31,12 @@ use Rattle.cgx_read_fields.proofs.Ready.{layer-ready}
 use Rattle.cgx_ask_layer_name.specs.declared.NameAnswer.{NameAnswer}
 use Rattle.cgx_ask_layer_name.specs.declared.NameAnswer.TheVariants.{NoLayer, OfFile, OfSubstitute}
 use Rattle.cgx_ask_layer_name.specs.Layers.{kept_layer, cut_layer, good_layer, layer_answer, name_in, named, name_answer_of, name_answer_text, name_answer_ptr, NameAnswerInside, LayerAt, LayerSizeIs, is_layer}
+use Rattle.cgx_spec.specs.declared.FileRefusal.{FileRefusal}
 
 -- ---- the rules 8 to 12 of a LAYER: 9, 10 and 12 have nothing to say
 
-abbrev first_of : Bool → Bool → ℕ
-first_of a d = number_or0 (broken (rule 8 a ∷ rule 9 true ∷ rule 10 true ∷ rule 11 d ∷ rule 12 true ∷ []))
+abbrev first_of : Bool → Bool → Option ℕ
+first_of a d = broken (rule 8 a ∷ rule 9 true ∷ rule 10 true ∷ rule 11 d ∷ rule 12 true ∷ [])
 
 module _ (fl : ℕ) (b : List ℕ) where
   abbrev fit : Bool
@@ -50,15 +49,15 @@ module _ (fl : ℕ) (b : List ℕ) where
   unfolding body_fault layout pieces keeps rule_of
   fault-is = refl
 
-no-fault : (a d : Bool) → first_of a d ≡ 0 → (a ≡ true) × (d ≡ true)
+no-fault : (a d : Bool) → first_of a d ≡ None → (a ≡ true) × (d ≡ true)
 unfolding broken
 no-fault true true e = (refl, refl)
-no-fault true false e = absurd (omega arith)
-no-fault false d e = absurd (omega arith)
+no-fault true false e = absurd (none-some _ (sym e))
+no-fault false d e = absurd (none-some _ (sym e))
 
-a-fault : (a d : Bool) → (first_of a d ≡ 0 → ⊥) → (true && a && d) ≡ false
+a-fault : (a d : Bool) {n : ℕ} → first_of a d ≡ Some n → (true && a && d) ≡ false
 unfolding broken
-a-fault true true e = absurd (e refl)
+a-fault true true e = absurd (none-some _ e)
 a-fault true false e = refl
 a-fault false d e = refl
 
@@ -88,7 +87,7 @@ module _ (f : List ℕ) (at : ℕ) where
   abbrev cut-good : Bool
   cut-good = cut_layer (cut (drop at f))
 
-  pub low : at < 4 → LayerSizeIs f at 0
+  pub low : at < 4 → LayerSizeIs f at None
   unfolding LayerSizeIs good_layer
   low h = ap (λ (x : Bool). tests x (eqb (at % 2) 0) cut-good) (lt-leb 4 at h)
 
@@ -97,7 +96,7 @@ module _ (f : List ℕ) (at : ℕ) where
     unfolding good_layer
     from-4 = ap (λ (x : Bool). tests x (eqb (at % 2) 0) cut-good) (le-leb 4 at h)
 
-    pub odd : at % 2 ≡ 1 → LayerSizeIs f at 0
+    pub odd : at % 2 ≡ 1 → LayerSizeIs f at None
     unfolding LayerSizeIs
     odd q = from-4 ∙ ap (λ (x : Bool). tests true x cut-good) (ne_eqb (at % 2) 0 (λ z. omega arith))
 
@@ -105,16 +104,16 @@ module _ (f : List ℕ) (at : ℕ) where
       even : good_layer f at ≡ cut-good
       even = from-4 ∙ ap (λ (x : Bool). tests true x cut-good) (eq-eqb (at % 2) 0 (omega arith))
 
-      pub beyond : length f < at → LayerSizeIs f at 0
+      pub beyond : length f < at → LayerSizeIs f at None
       unfolding LayerSizeIs cut_meant cut_layer
       beyond l = even ∙ ap cut_layer (head-3 f at (omega arith)).cuts
 
-      module _ (hd : Headed) (d : Heads f at hd) where
-        pub no_record : {k : ℕ} → hd ≡ Bad k → LayerSizeIs f at 0
+      module _ (hd : Result Header FileRefusal) (d : Heads f at hd) where
+        pub no_record : {k : FileRefusal} → hd ≡ Err k → LayerSizeIs f at None
         unfolding LayerSizeIs cut_meant cut_layer
         no_record q = even ∙ ap cut_layer (d.cuts ∙ ap (cut_meant f at) q)
 
-        module _ {r : Header} (q : hd ≡ Good r) where
+        module _ {r : Header} (q : hd ≡ Ok r) where
           abbrev n : ℕ
           n = r.size
 
@@ -133,15 +132,15 @@ module _ (f : List ℕ) (at : ℕ) where
           header = header-in f at d q
 
           -- by the kind of the header
-          type-is : {v : Bool} → v ≡ is_layer (kind_in r.kind) → eqb (get_or f (at + 2) 0) 4 ≡ v
+          type-is : {v : Bool} → v ≡ is_layer r.kind → eqb (get_or f (at + 2) 0) 4 ≡ v
           type-is w = sym (w ∙ ap is_layer (kind-says f at header.read) ∙ layer-type (get_or f (at + 2) 0))
 
-          pub other-type : {v : Bool} → v ≡ is_layer (kind_in r.kind) → v ≡ false → LayerSizeIs f at 0
+          pub other-type : {v : Bool} → v ≡ is_layer r.kind → v ≡ false → LayerSizeIs f at None
           unfolding LayerSizeIs
           other-type w t =
               by-record ∙ ap (λ (x : Bool). tests x (fit (get_or f (at + 3) 0) body) (texts (get_or f (at + 3) 0) body)) (type-is w ∙ t)
 
-          module _ {v : Bool} (w : v ≡ is_layer (kind_in r.kind)) (t : v ≡ true) {k : ℕ} (z : k ≡ body_fault Layer r.flags (take (at + n - (at + 4)) (drop (at + 4) f))) where
+          module _ {v : Bool} (w : v ≡ is_layer r.kind) (t : v ≡ true) {k : Option ℕ} (z : k ≡ body_fault Layer r.flags (take (at + n - (at + 4)) (drop (at + 4) f))) where
             fault : k ≡ first_of (fit (get_or f (at + 3) 0) body) (texts (get_or f (at + 3) 0) body)
             fault =
                 let e : at + n - (at + 4) ≡ n - 4 = omega arith in
@@ -152,47 +151,39 @@ module _ (f : List ℕ) (at : ℕ) where
             typed : good_layer f at ≡ tests true (fit (get_or f (at + 3) 0) body) (texts (get_or f (at + 3) 0) body)
             typed = by-record ∙ ap (λ (x : Bool). tests x (fit (get_or f (at + 3) 0) body) (texts (get_or f (at + 3) 0) body)) (type-is w ∙ t)
 
-            pub faulty : (k ≡ 0 → ⊥) → LayerSizeIs f at 0
+            pub faulty : {m : ℕ} → k ≡ Some m → LayerSizeIs f at None
             unfolding LayerSizeIs
-            faulty y = typed ∙ a-fault (fit (get_or f (at + 3) 0) body) (texts (get_or f (at + 3) 0) body) (λ x. y (fault ∙ x))
+            faulty y = typed ∙ a-fault (fit (get_or f (at + 3) 0) body) (texts (get_or f (at + 3) 0) body) (sym fault ∙ y)
 
-            pub present-good : k ≡ 0 → LayerSizeIs f at n
+            pub present-good : k ≡ None → LayerSizeIs f at (Some n)
             unfolding rec_at LayerSizeIs
             present-good y =
                 let fl = get_or f (at + 3) 0 in
                 let g = no-fault (fit fl body) (texts fl body) (sym fault ∙ y) in
                 let i = header.held in
                 let good : good_layer f at ≡ true = typed ∙ ap (λ (x : Bool). tests true x (texts fl body)) g.0 ∙ ap (λ (x : Bool). tests true true x) g.1 in
-                sized n i.least (record { readable = record { held = i; fits = g.0; texts = g.1 }; is = cut-is; kept = good })
-              where
-                sized : (m : ℕ) → 4 ≤ m → LayerAt f at m → LayerSizeIs f at m
-                sized zero l a = absurd (omega arith)
-                sized (suc m) l a = a
+                record { readable = record { held = i; fits = g.0; texts = g.1 }; is = cut-is; kept = good }
 
--- ---- a size of 0, and any other
+-- ---- no size, and any
 
-module _ (f : List ℕ) (at : ℕ) {n : ℕ} (s : LayerSizeIs f at n) where
-  pub none-there : n ≡ 0 → good_layer f at ≡ false
+module _ (f : List ℕ) (at : ℕ) {o : Option ℕ} (s : LayerSizeIs f at o) where
+  none-there : o ≡ None → good_layer f at ≡ false
   unfolding LayerSizeIs
   none-there e = subst (LayerSizeIs f at) e s
 
-  pub one-there : (n ≡ 0 → ⊥) → LayerAt f at n
+  pub one-there : {n : ℕ} → o ≡ Some n → LayerAt f at n
   unfolding LayerSizeIs
-  one-there h = go n s h
-    where
-      go : (m : ℕ) → LayerSizeIs f at m → (m ≡ 0 → ⊥) → LayerAt f at m
-      go zero t z = absurd (z refl)
-      go (suc m) t z = t
+  one-there e = subst (LayerSizeIs f at) e s
 
-  pub answer-16 : n ≡ 0 → 16 ≡ layer_answer f at
+  pub answer-16 : o ≡ None → Err (record { number = 16; at = None }) ≡ layer_answer f at
   unfolding layer_answer
-  answer-16 e = sym (ap (λ (x : Bool). cond x 0 16) (none-there e))
+  answer-16 e = sym (ap (λ (x : Bool). cond x (Ok tt) (Err (record { number = 16; at = None }))) (none-there e))
 
-  pub answer-0 : (n ≡ 0 → ⊥) → 0 ≡ layer_answer f at
+  pub answer-0 : {n : ℕ} → o ≡ Some n → Ok tt ≡ layer_answer f at
   unfolding layer_answer
-  answer-0 h = sym (ap (λ (x : Bool). cond x 0 16) (one-there h).kept)
+  answer-0 h = sym (ap (λ (x : Bool). cond x (Ok tt) (Err (record { number = 16; at = None }))) (one-there h).kept)
 
-  pub none-shown : n ≡ 0 → (NoLayer ≡ name_answer_of f at) × NameAnswerInside f NoLayer
+  pub none-shown : o ≡ None → (NoLayer ≡ name_answer_of f at) × NameAnswerInside f NoLayer
   unfolding name_answer_of NameAnswerInside
   none-shown e = (sym (ap (λ (x : Bool). cond x (named (at + 8) (length (name_in (cut (drop at f))))) NoLayer) (none-there e)), tt)
 
@@ -266,11 +257,11 @@ module _ (f : List ℕ) (at n : ℕ) (a : LayerAt f at n) where
     name-length : length_in (name_text f l.name) ≡ length (text_of (take (n - 8) (drop (at + 8) f)))
     name-length = ap length_in name-value ∙ length-in (take (n - 8) (drop (at + 8) f))
 
-    absent-name : l.name ≡ Absent → (0 ≡ length (text_of (take (n - 8) (drop (at + 8) f)))) × (0 ≤ n - 8)
+    absent-name : l.name ≡ None → (0 ≡ length (text_of (take (n - 8) (drop (at + 8) f)))) × (0 ≤ n - 8)
     unfolding name_text length_in
-    absent-name q = (ap (λ (x : Name). length_in (name_text f x)) (sym q) ∙ name-length, omega arith)
+    absent-name q = (ap (λ (x : Option TextSpan). length_in (name_text f x)) (sym q) ∙ name-length, omega arith)
 
-    present-name : {s : TextSpan} → l.name ≡ Present s → (s.at ≡ at + 8) × (s.len ≡ length (text_of (take (n - 8) (drop (at + 8) f)))) × (s.len ≤ n - 8)
+    present-name : {s : TextSpan} → l.name ≡ Some s → (s.at ≡ at + 8) × (s.len ≡ length (text_of (take (n - 8) (drop (at + 8) f)))) × (s.len ≤ n - 8)
     unfolding name_text span_text length_in FieldsAt
     present-name {s} q =
         let w : TextAt (at + 8) (at + n) s = subst (NameAt (at + 8) (at + n)) q (r 0).located in
@@ -278,15 +269,15 @@ module _ (f : List ℕ) (at n : ℕ) (a : LayerAt f at n) where
         let y = w.1 in
         let z = layer-room in
         let k : length (take s.len (drop s.at f)) ≡ s.len = length-take-le s.len (drop s.at f) (omega (arith, length-drop s.at f)) in
-        (x, sym k ∙ ap (λ (v : Name). length_in (name_text f v)) (sym q) ∙ name-length, omega arith)
+        (x, sym k ∙ ap (λ (v : Option TextSpan). length_in (name_text f v)) (sym q) ∙ name-length, omega arith)
 
-    pub absent-shown : l.name ≡ Absent → (OfSubstitute ≡ name_answer_of f at) × NameAnswerInside f OfSubstitute
+    pub absent-shown : l.name ≡ None → (OfSubstitute ≡ name_answer_of f at) × NameAnswerInside f OfSubstitute
     absent-shown q = empty-shown (absent-name q) refl
 
-    pub empty-name-shown : {s : TextSpan} → l.name ≡ Present s → s.len ≡ 0 → (OfSubstitute ≡ name_answer_of f at) × NameAnswerInside f OfSubstitute
+    pub empty-name-shown : {s : TextSpan} → l.name ≡ Some s → s.len ≡ 0 → (OfSubstitute ≡ name_answer_of f at) × NameAnswerInside f OfSubstitute
     empty-name-shown q z = empty-shown ((present-name q).1, (present-name q).2) z
 
-    pub present-shown : {s : TextSpan} → l.name ≡ Present s → (s.len ≡ 0 → ⊥) → (OfFile s.at s.len ≡ name_answer_of f at) × NameAnswerInside f (OfFile s.at s.len)
+    pub present-shown : {s : TextSpan} → l.name ≡ Some s → (s.len ≡ 0 → ⊥) → (OfFile s.at s.len ≡ name_answer_of f at) × NameAnswerInside f (OfFile s.at s.len)
     present-shown q z = name-shown ((present-name q).1, (present-name q).2) (present-name q).0 z
 
 -- ---- the part that is shown

@@ -1,8 +1,8 @@
 -- 01, "The name shown for a layer, asked by file and record offset with a substitute text". Definitions only.
-use Rattle.std.specs.Prelude.{◌≡◌, Bool, true, false, ◌&&◌, cond, List, [], ℕ, zero, suc, ◌+◌, ◌%◌, ◌≤◌, leb, eqb, length, take, drop, get_or}
-use Rattle.std.proofs.Math.Option.{Option, none, some}
+use Rattle.std.specs.Prelude.{◌≡◌, Bool, true, false, ◌&&◌, cond, List, [], ℕ, zero, suc, ◌+◌, ◌%◌, ◌≤◌, leb, eqb, length, take, drop, get_or, None, Option, Some, Result, Ok, Err}
 use Rattle.cgx_spec.specs.declared.Kind.{Kind}
 use Rattle.cgx_spec.specs.declared.Kind.TheVariants.{Library, Struct, Cprpty, Property, Layer, Box, Poly, Wire, Text, Sref, Endlib}
+use Rattle.cgx_spec.specs.declared.Refusal.{Refusal}
 use Rattle.cgx_spec.specs.Strings.{text_of}
 use Rattle.cgx_spec.specs.Fields.{lengths_fit, keeps}
 use Rattle.cgx_spec.specs.Records.{Rec, pieces_of}
@@ -28,8 +28,8 @@ unfoldable pub good_layer : List ℕ → ℕ → Bool
 good_layer f at = leb 4 at && eqb (at % 2) 0 && cut_layer (cut (drop at f))
 
 -- "a second question, whether a good LAYER stands there, answers 16" where none does.
-unfoldable pub layer_answer : List ℕ → ℕ → ℕ
-layer_answer f at = cond (good_layer f at) 0 16
+unfoldable pub layer_answer : List ℕ → ℕ → Result (Unit {0}) Refusal
+layer_answer f at = cond (good_layer f at) (Ok tt) (Err (record { number = 16; at = None }))
 
 -- ---- the name
 
@@ -72,22 +72,22 @@ pub record LayerAt (f : List ℕ) (at n : ℕ) : Type 0 where
   pub is : cut (drop at f) ≡ found (rec_at f at n) (drop (at + n) f)
   pub kept : good_layer f at ≡ true
 
--- A good LAYER of this size; none where the size is 0.
-unfoldable pub LayerSizeIs : List ℕ → ℕ → ℕ → Type 0
-LayerSizeIs f at zero = good_layer f at ≡ false
-LayerSizeIs f at (suc n) = LayerAt f at (suc n)
+-- A good LAYER of this size, or none.
+unfoldable pub LayerSizeIs : List ℕ → ℕ → Option ℕ → Type 0
+LayerSizeIs f at None = good_layer f at ≡ false
+LayerSizeIs f at (Some n) = LayerAt f at n
 
 -- The kind is LAYER's.
 abbrev pub is_layer : Option Kind → Bool
-is_layer none = false
-is_layer (some Library) = false
-is_layer (some Struct) = false
-is_layer (some Cprpty) = false
-is_layer (some Property) = false
-is_layer (some Layer) = true
-is_layer (some Box) = false
-is_layer (some Poly) = false
-is_layer (some Wire) = false
-is_layer (some Text) = false
-is_layer (some Sref) = false
-is_layer (some Endlib) = false
+is_layer None = false
+is_layer (Some Library) = false
+is_layer (Some Struct) = false
+is_layer (Some Cprpty) = false
+is_layer (Some Property) = false
+is_layer (Some Layer) = true
+is_layer (Some Box) = false
+is_layer (Some Poly) = false
+is_layer (Some Wire) = false
+is_layer (Some Text) = false
+is_layer (Some Sref) = false
+is_layer (Some Endlib) = false

@@ -2,17 +2,14 @@
 #![tactic(auto)]
 
 ghost use Rattle.std.specs.Prelude.{◌≡◌};
-ghost use Rattle.std.proofs.Math.Option.{some};
-ghost use Rattle.cgx_format_headers.specs.Headers.{kind_in};
 ghost use Rattle.cgx_ask_layer_name.specs.Layers.{layer_answer, name_answer_of, name_answer_text, name_answer_ptr, NameAnswerInside, LayerSizeIs, is_layer};
 
-use cgx_format_headers::{Headed, RecordType, header_at};
-use cgx_format_kinds::Name;
+use cgx_format_headers::header_at;
 use cgx_format_records::body_fault;
 use cgx_read_fields::layer_of;
-use cgx_spec::Kind;
+use cgx_spec::{Fault, Kind, Refusal};
 
-// What is shown: no layer's name, a part of the file, or the whole substitute.
+// What is shown: no layer's name, a part of the file, or the whole substitute. Three cases, which an `Option` of an `Option` would not make plainer.
 #[derive(Clone, Copy)]
 pub enum NameAnswer {
     NoLayer,
@@ -20,12 +17,14 @@ pub enum NameAnswer {
     OfSubstitute,
 }
 
-// Whether there is a good LAYER at an offset: 0, or 16 where none does.
-pub fn layer_at(file: &[u8], at: usize) -> u8
+// Whether there is a good LAYER at an offset; refusal 16 where there is none.
+pub fn layer_at(file: &[u8], at: usize) -> Result<(), Refusal>
     ensures { result ≡ layer_answer file.now at }
 {
-    let size = layer_size(file, at);
-    if size == 0 { 16 } else { 0 }
+    match layer_size(file, at) {
+        Some(_) => Ok(()),
+        None => Err(Fault::NoSuch.nowhere()),
+    }
 }
 
 // The name shown for the layer at an offset. The promise has its bytes, and its place: it is the very part of the file or of the
@@ -50,15 +49,12 @@ pub fn layer_name_at(file: &[u8], at: usize) -> NameAnswer
     ensures value { result ≡ name_answer_of file.now at }
     ensures inside { NameAnswerInside file.now result }
 {
-    let size = layer_size(file, at);
-    if size == 0 {
+    let Some(size) = layer_size(file, at) else {
         return NameAnswer::NoLayer;
-    }
-    let layer = layer_of(file, at, size);
-    let name = layer.name;
-    match name {
-        Name::Absent => NameAnswer::OfSubstitute,
-        Name::Present(text) => {
+    };
+    match layer_of(file, at, size).name {
+        None => NameAnswer::OfSubstitute,
+        Some(text) => {
             if text.len == 0 {
                 return NameAnswer::OfSubstitute;
             }
@@ -70,60 +66,39 @@ pub fn layer_name_at(file: &[u8], at: usize) -> NameAnswer
     }
 }
 
-// The size of the good LAYER at an offset, or 0. Nothing before the offset is read.
-fn layer_size(file: &[u8], at: usize) -> usize
+// The size of the good LAYER at an offset, if there is one. Nothing before the offset is read.
+fn layer_size(file: &[u8], at: usize) -> Option<usize>
     ensures { LayerSizeIs file.now at result }
 {
     if at < 4 {
-        return 0;
+        return None;
     }
     if at % 2 == 1 {
-        return 0;
+        return None;
     }
     if file.len() < at {
-        return 0;
+        return None;
     }
-    let found = header_at(file, at);
-    match found {
-        Headed::Bad(_) => 0,
-        Headed::Good(h) => {
-            let n = h.size;
-            let t = h.kind;
-            if !is_layer(t) {
-                return 0;
-            }
-            let from = at + Kind::HEADER_SIZE;
-            let to = at + n;
-            // Not by `layer_fault`: with this second caller `body_fault` stays out of line, and the check's loop small.
-            let fault = body_fault(Kind::Layer, h.flags, &file[from..to]);
-            if fault == 0 { n } else { 0 }
-        }
+    let Ok(h) = header_at(file, at) else {
+        return None;
+    };
+    if !is_layer(h.kind) {
+        return None;
+    }
+    let from = at + Kind::HEADER_SIZE;
+    let to = at + h.size;
+    // Not by `layer_fault`: with this second caller `body_fault` stays out of line, and the check's loop small.
+    match body_fault(Kind::Layer, h.flags, &file[from..to]) {
+        Ok(()) => Some(h.size),
+        Err(_) => None,
     }
 }
 
-fn is_layer(t: RecordType) -> bool
-    ensures { result ≡ is_layer (kind_in t) }
+fn is_layer(t: Option<Kind>) -> bool
+    ensures { result ≡ is_layer t }
 {
     match t {
-        RecordType::Known(k) => is_layer_kind(k),
-        RecordType::Unknown => false,
-    }
-}
-
-fn is_layer_kind(k: Kind) -> bool
-    ensures { result ≡ is_layer (some k) }
-{
-    match k {
-        Kind::Library => false,
-        Kind::Struct => false,
-        Kind::Cprpty => false,
-        Kind::Property => false,
-        Kind::Layer => true,
-        Kind::Box => false,
-        Kind::Poly => false,
-        Kind::Wire => false,
-        Kind::Text => false,
-        Kind::Sref => false,
-        Kind::Endlib => false,
+        Some(k) => k == Kind::Layer,
+        None => false,
     }
 }

@@ -1,8 +1,8 @@
 -- The digits of a number say it, and the definitions compute 01's listing. Assumes nothing.
+use Rattle.std.specs.Prelude.{None, Option, Some}
 use mathlib.Core.Path.{◌≡◌, refl, sym, ap, ◌∙◌}
 use mathlib.Core.Bool.{Bool, true, false}
 use mathlib.Core.List.{List, [], ◌∷◌, ◌++◌}
-use mathlib.Core.Option.{Option, none, some}
 use Prim.Native.Nat.{ℕ, zero, suc, ◌+◌, ◌*◌, ◌-◌, ◌/◌, ◌%◌, ◌≤◌, ◌<◌}
 use native.Mathlib.Omega.{arith}
 use borrow.Author.Tests.{ltb-true, ltb-false}
@@ -10,8 +10,8 @@ use lib.Dec.{ltb}
 use lib.ListN.{length, get_or, length-append}
 use Rattle.cgx_spec.specs.declared.Kind.{Kind}
 use Rattle.cgx_spec.specs.declared.Context.{Context}
-use Rattle.cgx_spec.specs.declared.Verdict.{Verdict}
-use Rattle.cgx_spec.specs.declared.Verdict.TheVariants.{Refused as refused}
+use Rattle.cgx_spec.specs.Verdicts.{Verdict}
+use Rattle.cgx_spec.specs.Verdicts.{refused}
 use Rattle.cgx_spec.specs.Numbers.{Bytes, twos, short_of, long_of, longs_of}
 use Rattle.cgx_spec.specs.Reals.{negative, exponent, mantissa, pack, value as word_value, positive, lower, minus, normal as word_normal, positive_real, normal_real}
 use Rattle.cgx_spec.specs.Dates.{calendar, good_date}
@@ -92,8 +92,8 @@ placed-lines (r ∷ rs) c at = one (kind_of r.type) (views (place_all (next c at
     p = record { at = at; context = c; rec = r }
 
     one : (o : Option Kind) (vs : List View) → join line_of vs ≡ lines_from (at + size r) rs → join line_of (if_seen o p vs) ≡ line_if o at ++ lines_from (at + size r) rs
-    one none vs e = e
-    one (some k) vs e = ap (λ (x : List ℕ). line at k ++ x) e
+    one None vs e = e
+    one (Some k) vs e = ap (λ (x : List ℕ). line at k ++ x) e
 
 accepted-lines : (f : List ℕ) → Bytes f → Accepted f → lines_of f ≡ lines_from 4 (records_of f) ++ ascii "ok\n"
 unfolding lines_of views_of Accepted last_line

@@ -1,16 +1,16 @@
 -- Stores one after another, and the parts of a line. Assumes nothing.
+use Rattle.std.specs.Prelude.{Option}
 use mathlib.Core.Path.{◌≡◌, sym, ap, ◌∙◌, subst}
 use mathlib.Core.List.{List, [], ◌++◌}
-use mathlib.Core.Option.{Option}
 use Prim.Native.Nat.{ℕ, ◌+◌, ◌≤◌}
 use native.Mathlib.Nat.{add-zero}
 use native.Mathlib.Omega.{arith}
 use lib.ListN.{length, length-append}
 use Rattle.cgx_spec.specs.declared.Kind.{Kind}
-use Rattle.cgx_spec.specs.declared.Verdict.{Verdict}
+use Rattle.cgx_spec.specs.Verdicts.{Verdict}
 use Rattle.buffers.specs.Put.{put}
 use Rattle.buffers.proofs.Puts.{put-nil, put_then, put-length}
-use Rattle.cgx_ask_listing.specs.Listing.{name_end, last_line, line_if, Stored}
+use Rattle.cgx_ask_listing.specs.Listing.{last_line, line_if, Stored}
 
 -- ---- stores
 
@@ -37,15 +37,6 @@ room-first vs ws at n h = omega (arith, length-append vs ws)
 -- the same bytes by another name
 pub named-so : {out after : List ℕ} {at n : ℕ} {vs ws : List ℕ} → vs ≡ ws → Stored out at vs after n → Stored out at ws after n
 named-so {out} {after} {at} {n} e s = subst (λ (l : List ℕ). Stored out at l after n) e s
-
--- ---- names
-
-module _ (out : List ℕ) (at : ℕ) {k d : Kind} (e : k ≡ d) where
-  pub name-room : at + length (name_end k) ≤ length out → at + length (name_end d) ≤ length out
-  name-room h = subst (λ (x : Kind). at + length (name_end x) ≤ length out) e h
-
-  pub name-stored : {after : List ℕ} {n : ℕ} → Stored out at (name_end d) after n → Stored out at (name_end k) after n
-  name-stored {after} {n} s = subst (λ (x : Kind). Stored out at (name_end x) after n) (sym e) s
 
 -- ---- the line of the verdict
 

@@ -1,6 +1,6 @@
 -- What is proved of the lister's definitions: its digits, and 01's own listing. Statements only.
 use Rattle.std.specs.Prelude.{List, [], ◌∷◌, ◌≡◌, ℕ, suc, ◌+◌, ◌*◌, ◌-◌, ◌≤◌, length, get_or}
-use Rattle.cgx_spec.specs.declared.Verdict.TheVariants.{Refused as refused}
+use Rattle.cgx_spec.specs.Verdicts.{refused}
 use Rattle.cgx_spec.specs.Numbers.{Bytes}
 use Rattle.cgx_spec.specs.Records.{Rec}
 use Rattle.cgx_spec.specs.Files.{opening, Accepted, records_of}

@@ -1,10 +1,9 @@
 -- 01, "Lister": what is printed of a file, byte by byte. Definitions only.
-use Rattle.std.specs.Prelude.{true, false, cond, List, [], ◌∷◌, ◌++◌, ◌≡◌, ℕ, zero, suc, ◌+◌, ◌/◌, ◌%◌, ◌≤◌, ltb, length, drop}
-use Rattle.std.proofs.Math.Option.{Option, none, some}
+use Rattle.std.specs.Prelude.{true, false, cond, List, [], ◌∷◌, ◌++◌, ◌≡◌, ℕ, zero, suc, ◌+◌, ◌/◌, ◌%◌, ◌≤◌, ltb, length, drop, None, Option, Some, Ok, Err}
 use Rattle.cgx_spec.specs.declared.Kind.{Kind}
 use Rattle.cgx_spec.specs.declared.Kind.TheVariants.{Library, Struct, Cprpty, Property, Layer, Box, Poly, Wire, Text, Sref, Endlib}
-use Rattle.cgx_spec.specs.declared.Verdict.{Verdict}
-use Rattle.cgx_spec.specs.declared.Verdict.TheVariants.{Accepted as accepted, Refused as refused}
+use Rattle.cgx_spec.specs.Verdicts.{Verdict}
+use Rattle.cgx_spec.specs.Verdicts.{accepted, refused}
 use Rattle.cgx_spec.specs.Fields.{join}
 use Rattle.cgx_spec.specs.Records.{View}
 use Rattle.cgx_spec.specs.Files.{views_of, verdict_of}
@@ -56,8 +55,8 @@ line_of v = line v.at v.kind
 
 -- "then `ok` or `refused N at P`"
 unfoldable pub last_line : Verdict → List ℕ
-last_line accepted = ascii "ok\n"
-last_line (refused n p) = ascii "refused " ++ (decimal n ++ (ascii " at " ++ (decimal p ++ ascii "\n")))
+last_line (Ok _) = ascii "ok\n"
+last_line (Err r) = ascii "refused " ++ (decimal r.number ++ (ascii " at " ++ (decimal r.at ++ ascii "\n")))
 
 -- ---- the listing
 
@@ -79,8 +78,8 @@ pub record Listed (f out after : List ℕ) (n : ℕ) : Type 0 where
 
 -- The line of a record of this kind at an offset; an unknown record has none.
 abbrev pub line_if : Option Kind → ℕ → List ℕ
-line_if none at = []
-line_if (some k) at = line at k
+line_if None at = []
+line_if (Some k) at = line at k
 
 -- The bytes vs are stored from an offset on, all of them, and n is the offset after them.
 pub record Stored (out : List ℕ) (at : ℕ) (vs after : List ℕ) (n : ℕ) : Type 0 where

@@ -3,14 +3,13 @@
 
 ghost use Rattle.std.specs.Prelude.{◌≡◌, ◌+◌, ◌≤◌, ◌<◌, length};
 ghost use Rattle.cgx_spec.specs.Files.{opening};
-ghost use Rattle.cgx_format_headers.specs.Headers.{kind_in};
 ghost use Rattle.cgx_ask_listing.specs.Listing.{digit, decimal, name_end, line, last_line, lines_of, line_if, Listed, Stored};
 
 use buffers::put_bytes;
-use cgx_format_headers::{RecordType, opening_fault};
+use cgx_format_headers::check_opening;
 use cgx_format_phases::Phase;
-use cgx_read_judge::{Judged, judge};
-use cgx_spec::{Kind, Verdict};
+use cgx_read_judge::judge;
+use cgx_spec::{FileRefusal, Kind, Verdict};
 
 // The longest file that is listed.
 pub const LIMIT: usize = 65536;
@@ -25,9 +24,8 @@ pub fn listing(file: &[u8], out: &mut [u8; ROOM]) -> usize
     if LIMIT < file.len() {
         return put_word(out, 0, b"too large\n");
     }
-    let number = opening_fault(file);
-    if number != 0 {
-        return put_refusal(out, 0, number as usize, 0);
+    if let Err(refusal) = check_opening(file) {
+        return put_last(out, 0, Err(refusal));
     }
     put_records(file, out)
 }
@@ -40,32 +38,35 @@ fn put_records(file: &[u8], out: &mut [u8]) -> usize
     let mut p = Phase::Start;
     let mut at: usize = 4;
     let mut to: usize = 0;
+    // By offset, since each record tells how far the next one is: no range and no chunks are plainer.
     loop {
-        let found = judge(file, p, at);
-        match found {
-            Judged::Stop(v) => {
-                return put_last(out, to, v);
-            }
-            Judged::Go(h, q) => {
-                let t = h.kind;
-                to = put_record(out, to, at, t);
-                p = q;
+        match judge(file, p, at) {
+            Ok(Some(found)) => {
+                let h = found.header;
+                to = put_record(out, to, at, h.kind);
+                p = found.phase;
                 at += h.size;
+            }
+            Ok(None) => {
+                return put_last(out, to, Ok(()));
+            }
+            Err(refusal) => {
+                return put_last(out, to, Err(refusal));
             }
         }
     }
 }
 
-// ---- lines: each function stores from an offset on, and answers the offset after it
+// ---- lines: each function stores from an offset on, and answers the offset after it: the buffer is lent (a rule of the project: no heap)
 
 // The line of a record; nothing where its type is unknown.
-fn put_record(out: &mut [u8], at: usize, offset: usize, t: RecordType) -> usize
-    requires { at + length (line_if (kind_in t) offset) ≤ length out.old }
-    ensures { Stored out.old at (line_if (kind_in t) offset) out.new result }
+fn put_record(out: &mut [u8], at: usize, offset: usize, t: Option<Kind>) -> usize
+    requires { at + length (line_if t offset) ≤ length out.old }
+    ensures { Stored out.old at (line_if t offset) out.new result }
 {
     match t {
-        RecordType::Known(k) => put_line(out, at, offset, k),
-        RecordType::Unknown => at,
+        Some(k) => put_line(out, at, offset, k),
+        None => at,
     }
 }
 
@@ -75,26 +76,26 @@ fn put_line(out: &mut [u8], at: usize, offset: usize, k: Kind) -> usize
     ensures { Stored out.old at (line offset k) out.new result }
 {
     let to = put_decimal(out, at, offset);
-    put_name(out, to, k)
+    put_word(out, to, name_end(k))
 }
 
-// The name of a kind between a space and the end of the line.
-fn put_name(out: &mut [u8], at: usize, k: Kind) -> usize
-    requires { at + length (name_end k) ≤ length out.old }
-    ensures { Stored out.old at (name_end k) out.new result }
+// The name of a kind between a space and the end of the line. Not by `Display` and `write!`: their contracts tell the bytes on Ok
+// alone, and a listing cannot fail.
+fn name_end(k: Kind) -> &'static [u8]
+    ensures { result.now ≡ name_end k }
 {
     match k {
-        Kind::Library => put_word(out, at, b" LIBRARY\n"),
-        Kind::Struct => put_word(out, at, b" STRUCT\n"),
-        Kind::Cprpty => put_word(out, at, b" CPRPTY\n"),
-        Kind::Property => put_word(out, at, b" PROPERTY\n"),
-        Kind::Layer => put_word(out, at, b" LAYER\n"),
-        Kind::Box => put_word(out, at, b" BOX\n"),
-        Kind::Poly => put_word(out, at, b" POLY\n"),
-        Kind::Wire => put_word(out, at, b" WIRE\n"),
-        Kind::Text => put_word(out, at, b" TEXT\n"),
-        Kind::Sref => put_word(out, at, b" SREF\n"),
-        Kind::Endlib => put_word(out, at, b" ENDLIB\n"),
+        Kind::Library => b" LIBRARY\n",
+        Kind::Struct => b" STRUCT\n",
+        Kind::Cprpty => b" CPRPTY\n",
+        Kind::Property => b" PROPERTY\n",
+        Kind::Layer => b" LAYER\n",
+        Kind::Box => b" BOX\n",
+        Kind::Poly => b" POLY\n",
+        Kind::Wire => b" WIRE\n",
+        Kind::Text => b" TEXT\n",
+        Kind::Sref => b" SREF\n",
+        Kind::Endlib => b" ENDLIB\n",
     }
 }
 
@@ -104,23 +105,23 @@ fn put_last(out: &mut [u8], at: usize, v: Verdict) -> usize
     ensures { Stored out.old at (last_line v) out.new result }
 {
     match v {
-        Verdict::Accepted => put_word(out, at, b"ok\n"),
-        Verdict::Refused { number, at: place } => put_refusal(out, at, number as usize, place),
+        Ok(()) => put_word(out, at, b"ok\n"),
+        Err(refusal) => put_refusal(out, at, refusal),
     }
 }
 
-fn put_refusal(out: &mut [u8], at: usize, number: usize, place: usize) -> usize
-    requires { at + length (last_line (Verdict.Refused number place)) ≤ length out.old }
-    ensures { Stored out.old at (last_line (Verdict.Refused number place)) out.new result }
+fn put_refusal(out: &mut [u8], at: usize, r: FileRefusal) -> usize
+    requires { at + length (last_line (Err r)) ≤ length out.old }
+    ensures { Stored out.old at (last_line (Err r)) out.new result }
 {
     let a = put_word(out, at, b"refused ");
-    let b = put_decimal(out, a, number);
+    let b = put_decimal(out, a, r.number as usize);
     let c = put_word(out, b, b" at ");
-    let d = put_decimal(out, c, place);
+    let d = put_decimal(out, c, r.at);
     put_word(out, d, b"\n")
 }
 
-// The digits of a number, the high ones first.
+// The digits of a number, the high ones first. By hand, since `write!` tells the bytes only where it does not fail (as at `name_end`).
 fn put_decimal(out: &mut [u8], at: usize, n: usize) -> usize
     requires { at + length (decimal n) ≤ length out.old }
     ensures { Stored out.old at (decimal n) out.new result }

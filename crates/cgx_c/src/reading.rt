@@ -9,14 +9,14 @@ ghost use Rattle.cgx_read_lists.specs.Lists.{box_of, point_of, within};
 ghost use Rattle.cgx_normal_form.specs.NormalAnswer.{normal_answer_of, output_after};
 ghost use Rattle.cgx_ask_layer_name.specs.Layers.{layer_answer, name_answer_of};
 ghost use Rattle.cgx_ask_extent.specs.Extent.{extent_of};
-ghost use Rattle.cgx_c_answers.specs.Told.{verdict_told, start_told, list_in, span_in, box_told, point_told, inside_told, name_told, extent_told, length_told, normal_told, double_told, real_told};
+ghost use Rattle.cgx_c_answers.specs.Told.{verdict_told, start_told, list_in, span_in, box_told, point_told, inside_told, layer_told, name_told, extent_told, length_told, normal_told, double_told, real_told};
 ghost use Rattle.cgx_c_step.specs.Lent.{StepLent};
 
 use cgx_ask_extent::extent;
 use cgx_ask_layer_name::{layer_at, layer_name_at};
 use cgx_c_answers::{
-    list_of, span_of, tell_box, tell_double, tell_extent, tell_inside, tell_length, tell_name,
-    tell_normal, tell_point, tell_real, tell_start, tell_verdict,
+    list_of, span_of, tell_box, tell_double, tell_extent, tell_inside, tell_layer, tell_length,
+    tell_name, tell_normal, tell_point, tell_real, tell_start, tell_verdict,
 };
 use cgx_c_places::PlaceWords;
 use cgx_c_step::step_over;
@@ -111,9 +111,9 @@ pub extern "C" fn cgx_real_from_double(value: &u64, real: &mut u64) -> u32
 // 0 where a good LAYER is at the offset, else 16.
 #[unsafe(no_mangle)]
 pub extern "C" fn cgx_layer_at(file: &[u8], at: usize) -> u32
-    ensures { result ≡ layer_answer file.now at }
+    ensures { result ≡ layer_told (layer_answer file.now at) }
 {
-    layer_at(file, at) as u32
+    tell_layer(layer_at(file, at))
 }
 
 #[unsafe(no_mangle)]

@@ -1,6 +1,5 @@
 // The writer and the makers. Each call lends its writer and a number for the offset that a refusal names.
 ghost use Rattle.std.specs.Prelude.{◌≡◌};
-ghost use Rattle.std.proofs.Math.Option.{none, some};
 ghost use Rattle.cgx_c_writer.specs.Lent.{writer_in, lent, lent_start};
 ghost use Rattle.cgx_c_writer.specs.Parts.{date_in, real_in, layer_no_in, data_type_in, given_placed, card_around, frame_around};
 ghost use Rattle.cgx_write_given.specs.Given.{given_library, given_struct, given_cprpty, given_property, given_layer, given_box, given_poly, given_wire, given_text, given_endlib};
@@ -13,7 +12,6 @@ use cgx_c_writer::{
     data_type, date_of, layer_no, placement_of, real_of, settle, settle_start, writer_of,
 };
 use cgx_format_kinds::Point;
-use cgx_write_given::EndStyle;
 use cgx_write_makers::{caption_frame, test_card};
 
 #[unsafe(no_mangle)]
@@ -124,8 +122,8 @@ pub extern "C" fn cgx_write_layer(
     at: &mut u64,
     id: &[i16; 2],
 ) -> u32
-    ensures buf_after { record { number = result; writer = writer.new; at = at.new; buffer = buf.new } ≡ lent writer.old at.old (call_in buf.old (writer_in writer.old) (given_layer (layer_no_in id.now) (data_type_in id.now) none)) }
-    ensures typed { WellTyped (given_layer (layer_no_in id.now) (data_type_in id.now) none) }
+    ensures buf_after { record { number = result; writer = writer.new; at = at.new; buffer = buf.new } ≡ lent writer.old at.old (call_in buf.old (writer_in writer.old) (given_layer (layer_no_in id.now) (data_type_in id.now) None)) }
+    ensures typed { WellTyped (given_layer (layer_no_in id.now) (data_type_in id.now) None) }
 {
     settle(
         cgx_write_calls::layer(buf, writer_of(writer), layer_no(id), data_type(id)),
@@ -142,8 +140,8 @@ pub extern "C" fn cgx_write_named_layer(
     id: &[i16; 2],
     name: &[u8],
 ) -> u32
-    ensures buf_after { record { number = result; writer = writer.new; at = at.new; buffer = buf.new } ≡ lent writer.old at.old (call_in buf.old (writer_in writer.old) (given_layer (layer_no_in id.now) (data_type_in id.now) (some name.now))) }
-    ensures typed { WellTyped (given_layer (layer_no_in id.now) (data_type_in id.now) (some name.now)) }
+    ensures buf_after { record { number = result; writer = writer.new; at = at.new; buffer = buf.new } ≡ lent writer.old at.old (call_in buf.old (writer_in writer.old) (given_layer (layer_no_in id.now) (data_type_in id.now) (Some name.now))) }
+    ensures typed { WellTyped (given_layer (layer_no_in id.now) (data_type_in id.now) (Some name.now)) }
 {
     settle(
         cgx_write_calls::named_layer(buf, writer_of(writer), layer_no(id), data_type(id), name),
@@ -194,11 +192,11 @@ pub extern "C" fn cgx_write_wire_longs(
     width: i32,
     longs: &[i32],
 ) -> u32
-    ensures buf_after { record { number = result; writer = writer.new; at = at.new; buffer = buf.new } ≡ lent writer.old at.old (call_in buf.old (writer_in writer.old) (given_wire EndStyle.Unstated width longs.now)) }
-    ensures typed { WellTyped (given_wire EndStyle.Unstated width longs.now) }
+    ensures buf_after { record { number = result; writer = writer.new; at = at.new; buffer = buf.new } ≡ lent writer.old at.old (call_in buf.old (writer_in writer.old) (given_wire None width longs.now)) }
+    ensures typed { WellTyped (given_wire None width longs.now) }
 {
     settle(
-        cgx_write_calls::wire(buf, writer_of(writer), EndStyle::Unstated, width, longs),
+        cgx_write_calls::wire(buf, writer_of(writer), None, width, longs),
         writer,
         at,
     )
@@ -213,17 +211,11 @@ pub extern "C" fn cgx_write_styled_wire_longs(
     width: i32,
     longs: &[i32],
 ) -> u32
-    ensures buf_after { record { number = result; writer = writer.new; at = at.new; buffer = buf.new } ≡ lent writer.old at.old (call_in buf.old (writer_in writer.old) (given_wire (EndStyle.Stated style) width longs.now)) }
-    ensures typed { WellTyped (given_wire (EndStyle.Stated style) width longs.now) }
+    ensures buf_after { record { number = result; writer = writer.new; at = at.new; buffer = buf.new } ≡ lent writer.old at.old (call_in buf.old (writer_in writer.old) (given_wire (Some style) width longs.now)) }
+    ensures typed { WellTyped (given_wire (Some style) width longs.now) }
 {
     settle(
-        cgx_write_calls::wire(
-            buf,
-            writer_of(writer),
-            EndStyle::Stated(style),
-            width,
-            longs,
-        ),
+        cgx_write_calls::wire(buf, writer_of(writer), Some(style), width, longs),
         writer,
         at,
     )

@@ -3,18 +3,14 @@
 #![tactic(auto)]
 
 ghost use Rattle.std.specs.Prelude.{◌≡◌};
-ghost use Rattle.cgx_c_answers.specs.Told.{verdict_told, start_told, list_in, span_in, sides_set, box_told, point_told, inside_told, name_told, rectangle_told, extent_told, length_told, normal_told, double_told, real_told};
+ghost use Rattle.cgx_c_places.specs.Words.{told_at};
+ghost use Rattle.cgx_c_answers.specs.Told.{verdict_told, start_told, list_in, span_in, box_told, point_told, inside_told, layer_told, name_told, extent_told, length_told, normal_told, double_told, real_told};
 
-use cgx_ask_extent::{CellExtent, Rectangle};
 use cgx_ask_layer_name::NameAnswer;
 use cgx_c_places::{PlaceWords, put_cursor, put_offset};
-use cgx_format_kinds::{ItemList, TextSpan};
-use cgx_normal_form::NormalAnswer;
-use cgx_read_check::Measured;
-use cgx_read_lists::{BoxAt, PointAt};
-use cgx_read_walk::Started;
-use cgx_spec::{Real, Verdict};
-use doubles::FromDouble;
+use cgx_format_cursor::Cursor;
+use cgx_format_kinds::{ItemList, Point, Sides, TextSpan};
+use cgx_spec::{FileRefusal, Real, Refusal, Verdict};
 
 // The answers that are no refusals.
 pub const NOTHING: u32 = 257;
@@ -23,34 +19,44 @@ pub const SUBSTITUTE: u32 = 258;
 
 pub const INEXACT: u32 = 259;
 
+// What a refusal of a file leaves: its number, and the offset that it names.
+fn tell_file_refusal(r: FileRefusal, at: &mut u64) -> u32
+    ensures { (result ≡ r.number) × (at.new ≡ r.at) }
+{
+    *at = r.at as u64;
+    r.number as u32
+}
+
+fn tell_refusal(r: Refusal, at: &mut u64) -> u32
+    ensures { (result ≡ r.number) × (at.new ≡ told_at r.at at.old) }
+{
+    put_offset(at, r.at);
+    r.number as u32
+}
+
 pub fn tell_verdict(v: Verdict, at: &mut u64) -> u32
     ensures { record { number = result; at = at.new } ≡ verdict_told v at.old }
 {
     match v {
-        Verdict::Accepted => 0,
-        Verdict::Refused { number, at: o } => {
-            *at = o as u64;
-            number as u32
-        }
+        Ok(()) => 0,
+        Err(r) => tell_file_refusal(r, at),
     }
 }
 
-pub fn tell_start(s: Started, place: &mut PlaceWords, at: &mut u64) -> u32
+pub fn tell_start(s: Result<Cursor, FileRefusal>, place: &mut PlaceWords, at: &mut u64) -> u32
     ensures { record { number = result; filled = place.new; at = at.new } ≡ start_told s place.old at.old }
 {
     match s {
-        Started::Ready(c) => {
+        Ok(c) => {
             put_cursor(place, c);
             0
         }
-        Started::Refused { number, at: o } => {
-            *at = o as u64;
-            number as u32
-        }
+        Err(r) => tell_file_refusal(r, at),
     }
 }
 
 // ---- lists and texts of a view
+// Each makes a type of its own: one counts items, the other bytes (no plainer). Functions and no `From`: words, lists and spans are types of other crates.
 
 pub fn list_of(w: &[u64; 2]) -> ItemList
     ensures { result ≡ list_in w.now }
@@ -68,45 +74,30 @@ pub fn span_of(w: &[u64; 2]) -> TextSpan
     TextSpan { at, len }
 }
 
-pub fn tell_box(b: BoxAt, sides: &mut [i32; 4]) -> u32
+pub fn tell_box(b: Option<Sides>, sides: &mut [i32; 4]) -> u32
     ensures { record { number = result; filled = sides.new } ≡ box_told b sides.old }
 {
     match b {
-        BoxAt::Outside => NOTHING,
-        BoxAt::Found {
-            left,
-            bottom,
-            right,
-            top,
-        } => {
-            put_sides(sides, left, bottom, right, top);
+        None => NOTHING,
+        Some(s) => {
+            sides[0] = s.left;
+            sides[1] = s.bottom;
+            sides[2] = s.right;
+            sides[3] = s.top;
             0
         }
     }
 }
 
-fn put_sides(sides: &mut [i32; 4], left: i32, bottom: i32, right: i32, top: i32)
-    ensures { sides.new ≡ sides_set sides.old left bottom right top }
-{
-    sides[0] = left;
-    sides[1] = bottom;
-    sides[2] = right;
-    sides[3] = top;
-}
-
-pub fn tell_point(p: PointAt, point: &mut [i32; 2]) -> u32
+pub fn tell_point(p: Option<Point>, point: &mut [i32; 2]) -> u32
     ensures { record { number = result; filled = point.new } ≡ point_told p point.old }
 {
-    match p {
-        PointAt::Outside => NOTHING,
-        PointAt::Found(q) => {
-            let x = q.x;
-            let y = q.y;
-            point[0] = x;
-            point[1] = y;
-            0
-        }
-    }
+    let Some(p) = p else {
+        return NOTHING;
+    };
+    point[0] = p.x;
+    point[1] = p.y;
+    0
 }
 
 pub fn tell_inside(inside: bool) -> u32
@@ -116,6 +107,15 @@ pub fn tell_inside(inside: bool) -> u32
 }
 
 // ---- questions
+
+pub fn tell_layer(answer: Result<(), Refusal>) -> u32
+    ensures { result ≡ layer_told answer }
+{
+    match answer {
+        Ok(()) => 0,
+        Err(r) => r.number as u32,
+    }
+}
 
 pub fn tell_name(n: NameAnswer, substitute_len: usize, name: &mut [u64; 2]) -> u32
     ensures { record { number = result; filled = name.new } ≡ name_told n substitute_len name.old }
@@ -133,59 +133,39 @@ pub fn tell_name(n: NameAnswer, substitute_len: usize, name: &mut [u64; 2]) -> u
     }
 }
 
-pub fn tell_extent(e: CellExtent, sides: &mut [i32; 4], at: &mut u64) -> u32
+pub fn tell_extent(e: Result<Option<Sides>, Refusal>, sides: &mut [i32; 4], at: &mut u64) -> u32
     ensures { record { number = result; filled = sides.new; at = at.new } ≡ extent_told e sides.old at.old }
 {
     match e {
-        CellExtent::Refused { number, at: o } => {
-            put_offset(at, o);
-            number as u32
-        }
-        CellExtent::Found(shape) => tell_rectangle(shape, sides),
-    }
-}
-
-fn tell_rectangle(shape: Rectangle, sides: &mut [i32; 4]) -> u32
-    ensures { record { number = result; filled = sides.new } ≡ rectangle_told shape sides.old }
-{
-    match shape {
-        Rectangle::Nothing => NOTHING,
-        Rectangle::Of(s) => {
-            put_sides(sides, s.left, s.bottom, s.right, s.top);
-            0
-        }
+        Err(r) => tell_refusal(r, at),
+        Ok(shape) => tell_box(shape, sides),
     }
 }
 
 // ---- the normal form
 
-pub fn tell_length(m: Measured, length: &mut u64, at: &mut u64) -> u32
+pub fn tell_length(m: Result<usize, FileRefusal>, length: &mut u64, at: &mut u64) -> u32
     ensures { record { number = result; filled = length.new; at = at.new } ≡ length_told m length.old at.old }
 {
     match m {
-        Measured::Accepted { length: n } => {
+        Ok(n) => {
             *length = n as u64;
             0
         }
-        Measured::Refused { number, at: o } => {
-            *at = o as u64;
-            number as u32
-        }
+        Err(r) => tell_file_refusal(r, at),
     }
 }
 
-pub fn tell_normal(m: NormalAnswer, length: &mut u64, at: &mut u64) -> u32
+// As `tell_length`, but a call's refusal may name no place.
+pub fn tell_normal(m: Result<usize, Refusal>, length: &mut u64, at: &mut u64) -> u32
     ensures { record { number = result; filled = length.new; at = at.new } ≡ normal_told m length.old at.old }
 {
     match m {
-        NormalAnswer::Length(n) => {
+        Ok(n) => {
             *length = n as u64;
             0
         }
-        NormalAnswer::Refused { number, at: o } => {
-            put_offset(at, o);
-            number as u32
-        }
+        Err(refusal) => tell_refusal(refusal, at),
     }
 }
 
@@ -207,12 +187,14 @@ pub fn tell_double(r: Real, value: &mut f64) -> u32
     }
 }
 
-pub fn tell_real(d: FromDouble, real: &mut u64) -> u32
+pub fn tell_real(d: Option<u64>, real: &mut u64) -> u32
     ensures { record { number = result; filled = real.new } ≡ real_told d real.old }
 {
-    if d.exact {
-        *real = d.word;
-        return 0;
+    match d {
+        Some(word) => {
+            *real = word;
+            0
+        }
+        None => INEXACT,
     }
-    INEXACT
 }

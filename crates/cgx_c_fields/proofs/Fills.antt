@@ -1,8 +1,9 @@
 -- Fields that are read and stored are those of the record, by the kind that it is. Assumes nothing.
+use Rattle.std.specs.Prelude.{None, Option, Some}
 use mathlib.Core.Path.{◌≡◌, refl, sym, ap, ◌∙◌, subst}
 use mathlib.Core.List.{List, [], ◌∷◌, ◌++◌}
 use mathlib.Core.Bool.{Bool, true, false, cond}
-use Prim.Native.Nat.{ℕ, ◌+◌, ◌-◌, ◌<◌, ◌≤◌}
+use Prim.Native.Nat.{ℕ, ◌+◌, ◌-◌, ◌≤◌}
 use native.Mathlib.Omega.{arith}
 use lib.ListN.{length, take, drop}
 use lib.IntN.{ℤ}
@@ -18,13 +19,10 @@ use Rattle.cgx_spec.specs.Fields.{date, string, value, pieces, lengths_fit, keep
 use Rattle.cgx_spec.specs.Kinds.{layout}
 use Rattle.cgx_spec.specs.Records.{Rule, rule, broken}
 use Rattle.cgx_spec.specs.Walking.{Held, rec_at}
-use Rattle.cgx_format_bodies.specs.Bodies.{number_or0, body_fault}
+use Rattle.cgx_format_bodies.specs.Bodies.{body_fault}
 use Rattle.cgx_format_kinds.specs.declared.Date.{Date}
 use Rattle.cgx_format_kinds.specs.declared.Point.{Point}
-use Rattle.cgx_format_kinds.specs.declared.OptionalReal.{OptionalReal}
-use Rattle.cgx_format_kinds.specs.declared.OptionalReal.TheVariants.{Missing, Given}
-use Rattle.cgx_format_kinds.specs.declared.Array.{Array}
-use Rattle.cgx_format_kinds.specs.declared.Array.TheVariants.{Single, Of}
+use Rattle.cgx_format_kinds.specs.declared.Grid.{Grid}
 use Rattle.cgx_format_kinds.specs.Meant.{span_text, date_numbers, optional_value, array_values}
 use Rattle.cgx_format_sref.specs.declared.SrefLayout.{SrefLayout}
 use Rattle.cgx_format_sref.specs.Layouts.{sref_layout}
@@ -36,49 +34,47 @@ use Rattle.cgx_read_fields.proofs.Labels.{text-by}
 use Rattle.cgx_read_fields.proofs.Srefs.{Room, sref-by}
 use Rattle.cgx_c_views.specs.ViewWords.{long_bits, pair_word, point_word, date_word, span_words, array_words, optional_word, field_words}
 use Rattle.cgx_c_fields.specs.Fill.{pair_at, Filled, FilledAlike, FilledIf}
+use Rattle.cgx_spec.specs.declared.Real.{Real}
 
 module _ {k j : Kind} {fl : ℕ} {f : List ℕ} {at size : ℕ} {w₀ w₁ : List ℕ} (e : k ≡ j) (fs : Fields) where
   pub filled : ReadAt j fl f at size fs → w₁ ≡ put w₀ 6 (field_words f fl at fs) → Filled k fl f at size w₀ w₁
   filled r q = record { fields = fs; read = subst (λ (x : Kind). ReadAt x fl f at size fs) (sym e) r; words = q }
 
 -- those of a kind that is told
-pub told-if : {k j : Kind} {fl : ℕ} {f : List ℕ} {at size r : ℕ} {w₀ w₁ : List ℕ} → k ≡ j → FilledIf j fl f at size r w₀ w₁ → FilledIf k fl f at size r w₀ w₁
+pub told-if : {k j : Kind} {fl : ℕ} {f : List ℕ} {at size : ℕ} {r : Option ℕ} {w₀ w₁ : List ℕ} → k ≡ j → FilledIf j fl f at size r w₀ w₁ → FilledIf k fl f at size r w₀ w₁
 told-if {fl = fl} {f = f} {at = at} {size = size} {r = r} {w₀ = w₀} {w₁ = w₁} e d = subst (λ (x : Kind). FilledIf x fl f at size r w₀ w₁) (sym e) d
 
 -- ---- a body that is judged
 
 -- a rule that is not the first one broken is kept
-rule-kept : (n : ℕ) (b : Bool) (rs : List Rule) → 0 < n → number_or0 (broken (rule n b ∷ rs)) ≡ 0 → (b ≡ true) × (number_or0 (broken rs) ≡ 0)
+rule-kept : (n : ℕ) (b : Bool) (rs : List Rule) → broken (rule n b ∷ rs) ≡ None → (b ≡ true) × (broken rs ≡ None)
 unfolding broken
-rule-kept n true rs l e = (refl, e)
-rule-kept n false rs l e = absurd (omega arith)
+rule-kept n true rs e = (refl, e)
+rule-kept n false rs e = absurd (cc)
 
-module _ (k : Kind) (fl : ℕ) {f : List ℕ} {at size : ℕ} (h : Held f at size) {r : ℕ} (e : r ≡ body_fault k fl (take (at + size - (at + 4)) (drop (at + 4) f))) where
-  pub fault-is : r ≡ body_fault k fl (rec_at f at size).body
-  unfolding rec_at
-  fault-is = let l = h.least in let q : at + size - (at + 4) ≡ size - 4 = omega arith in e ∙ ap (λ (n : ℕ). body_fault k fl (take n (drop (at + 4) f))) q
-
-  pub unfilled : (w : List ℕ) → (r ≡ 0 → ⊥) → FilledIf k fl f at size r w w
-  unfilled w z = record { fault = fault-is; filled = λ q. absurd (z q); kept = λ q. refl }
+-- where b, which is judged, is the body of the record
+module _ (k : Kind) (fl : ℕ) {f : List ℕ} {at size : ℕ} (h : Held f at size) {b : List ℕ} (q : b ≡ (rec_at f at size).body) {o : Option ℕ} (e : o ≡ body_fault k fl b) where
+  fault-is : o ≡ body_fault k fl (rec_at f at size).body
+  fault-is = e ∙ ap (body_fault k fl) q
 
   -- a body that breaks no rule is readable
-  pub readable : r ≡ 0 → Readable k fl f at size
+  pub readable : o ≡ None → Readable k fl f at size
   unfolding body_fault
   readable z =
       let ps = pieces (layout k fl) (rec_at f at size).body in
-      let e₈ = rule-kept 8 (lengths_fit ps) _ (omega arith) (sym fault-is ∙ z) in
-      let e₁₁ = rule-kept 11 (keeps 11 ps) _ (omega arith) (rule-kept 10 (keeps 10 ps) _ (omega arith) (rule-kept 9 (keeps 9 ps) _ (omega arith) e₈.1).1).1 in
+      let e₈ = rule-kept 8 (lengths_fit ps) _ (sym fault-is ∙ z) in
+      let e₁₁ = rule-kept 11 (keeps 11 ps) _ (rule-kept 10 (keeps 10 ps) _ (rule-kept 9 (keeps 9 ps) _ e₈.1).1).1 in
       record { held = h; fits = e₈.0; texts = e₁₁.0 }
 
-  pub filled-if : {w₀ w₁ : List ℕ} → r ≡ 0 → Filled k fl f at size w₀ w₁ → FilledIf k fl f at size 0 w₀ w₁
-  filled-if z d = record { fault = sym z ∙ fault-is; filled = λ q. d; kept = λ q. absurd (q refl) }
+  pub filled-if : {w₀ w₁ : List ℕ} → o ≡ None → Filled k fl f at size w₀ w₁ → FilledIf k fl f at size None w₀ w₁
+  filled-if z d = record { fault = sym z ∙ fault-is; filled = λ p. d; kept = λ p. absurd (p refl) }
 
 -- a number that is handed on is the number
-pub numbered : (w₀ : List ℕ) {w₁ : List ℕ} {x y : ℤ} (s : TextSpan) → x ≡ y → w₁ ≡ put w₀ 6 (long_bits x ∷ span_words s) → w₁ ≡ put w₀ 6 (long_bits y ∷ span_words s)
-numbered w₀ s e q = q ∙ ap (λ (z : ℤ). put w₀ 6 (long_bits z ∷ span_words s)) e
+pub number-on : (w₀ : List ℕ) {w₁ : List ℕ} {x y : ℤ} (s : TextSpan) → x ≡ y → w₁ ≡ put w₀ 6 (long_bits x ∷ span_words s) → w₁ ≡ put w₀ 6 (long_bits y ∷ span_words s)
+number-on w₀ s e q = q ∙ ap (λ (z : ℤ). put w₀ 6 (long_bits z ∷ span_words s)) e
 
 -- nothing is stored of an ENDLIB
-pub none_filled : (fl : ℕ) (f : List ℕ) (at size r : ℕ) (w : List ℕ) → r ≡ body_fault kinds.Endlib fl (rec_at f at size).body → FilledIf kinds.Endlib fl f at size r w w
+pub none_filled : (fl : ℕ) (f : List ℕ) (at size : ℕ) (r : Option ℕ) (w : List ℕ) → r ≡ body_fault kinds.Endlib fl (rec_at f at size).body → FilledIf kinds.Endlib fl f at size r w w
 unfolding field_words
 none_filled fl f at size r w e =
     record { fault = e; filled = λ q. filled refl fields.Endlib (endlib-read fl f at size) (sym (put-nil w 6)); kept = λ q. refl }
@@ -98,8 +94,8 @@ library-filled f at size w₀ w₁ s m u c d t em eu ec ed et q fl =
     (q ∙ rw (em, eu) refl)
 
 -- a real that may not be there
-abbrev optional : Bool → List ℕ → ℕ → OptionalReal
-optional b f at = cond b (Given (real_at f at)) Missing
+abbrev optional : Bool → List ℕ → ℕ → Option Real
+optional b f at = cond b (Some (real_at f at)) None
 
 optional-read : (b : Bool) (f : List ℕ) (at : ℕ) → (optional_value (optional b f at) ≡ real_if b f at) × AnswerAt f at (optional b f at)
 unfolding optional_value real_if
@@ -113,13 +109,16 @@ optional-is false f at = refl
 
 -- columns, rows and points that may not be there, from byte o of a record on
 module _ (f : List ℕ) (at o : ℕ) where
-  abbrev array : Bool → Array
+  abbrev array : Bool → Option Grid
   array b =
       cond b
-      (Of (long_of (take 4 (drop (at + o) f))) (long_of (take 4 (drop (at + (o + 4)) f)))
-      (record { x = long_of (take 4 (drop (at + (o + 8)) f)); y = long_of (take 4 (drop (at + (o + 8) + 4) f)) })
-      (record { x = long_of (take 4 (drop (at + (o + 16)) f)); y = long_of (take 4 (drop (at + (o + 16) + 4) f)) }))
-      Single
+      (Some (record {
+        cols = long_of (take 4 (drop (at + o) f));
+        rows = long_of (take 4 (drop (at + (o + 4)) f));
+        across = record { x = long_of (take 4 (drop (at + (o + 8)) f)); y = long_of (take 4 (drop (at + (o + 8) + 4) f)) };
+        up = record { x = long_of (take 4 (drop (at + (o + 16)) f)); y = long_of (take 4 (drop (at + (o + 16) + 4) f)) };
+      }))
+      None
 
   array-read : (b : Bool) → (b ≡ true → at + (o + 24) ≤ length f) → ArrayIs b f at o (array b)
   unfolding array_values array_if

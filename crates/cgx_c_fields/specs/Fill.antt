@@ -1,5 +1,5 @@
 -- The fields of a record in a C caller's view. Definitions only.
-use Rattle.std.specs.Prelude.{◌≡◌, List, ℕ, ◌+◌, take, drop}
+use Rattle.std.specs.Prelude.{◌≡◌, List, ℕ, ◌+◌, take, drop, None, Option}
 use Rattle.cgx_spec.specs.declared.Kind.{Kind}
 use Rattle.cgx_spec.specs.Numbers.{long_of}
 use Rattle.cgx_spec.specs.Walking.{rec_at}
@@ -26,9 +26,9 @@ abbrev pub FilledAlike : Kind → List ℕ → ℕ → ℕ → List ℕ → List
 FilledAlike k f at size w₀ w₁ = (fl : ℕ) → Filled k fl f at size w₀ w₁
 
 -- A body that is judged, and its fields: from the words w₀ of a view to the words w₁, with the answer r.
-pub record FilledIf (k : Kind) (fl : ℕ) (f : List ℕ) (at size r : ℕ) (w₀ w₁ : List ℕ) : Type 0 where
-  -- The first of the rules 8 to 12 that it breaks, or 0.
+pub record FilledIf (k : Kind) (fl : ℕ) (f : List ℕ) (at size : ℕ) (r : Option ℕ) (w₀ w₁ : List ℕ) : Type 0 where
+  -- The first of the rules 8 to 12 that it breaks, if any.
   pub fault : r ≡ body_fault k fl (rec_at f at size).body
   -- Its fields are stored if it breaks none; else no word changes.
-  pub filled : r ≡ 0 → Filled k fl f at size w₀ w₁
-  pub kept : (r ≡ 0 → ⊥) → w₁ ≡ w₀
+  pub filled : r ≡ None → Filled k fl f at size w₀ w₁
+  pub kept : (r ≡ None → ⊥) → w₁ ≡ w₀

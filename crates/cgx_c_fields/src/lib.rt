@@ -3,7 +3,8 @@
 
 ghost use Rattle.std.specs.Prelude.{◌≡◌, true, cond, ◌+◌, ◌-◌, ◌≤◌, length};
 ghost use Rattle.cgx_spec.specs.Walking.{Held, rec_at};
-ghost use Rattle.cgx_format_bodies.specs.Bodies.{body_fault};
+ghost use Rattle.cgx_spec.specs.Verdicts.{numbered};
+ghost use Rattle.cgx_format_bodies.specs.Bodies.{body_fault, Body};
 ghost use Rattle.cgx_format_sref.specs.Layouts.{sref_layout};
 ghost use Rattle.cgx_read_fields.specs.Views.{StringAt};
 ghost use Rattle.cgx_c_fields.specs.Fill.{pair_at, Filled, FilledAlike, FilledIf};
@@ -15,195 +16,147 @@ use cgx_c_views::{
 use cgx_format_bodies::{
     box_fault, layer_fault, poly_fault, property_fault, text_fault, wire_fault,
 };
+use cgx_format_headers::KnownRecord;
 use cgx_format_records::body_fault;
 use cgx_format_sref::sref_layout;
 use cgx_read_fields::{
     box_of, cprpty_of, date_at, layer_of, poly_of, property_of, struct_of, text_at, wire_of,
     word_at, word_if,
 };
-use cgx_spec::Kind;
+use cgx_spec::{Fault, Kind};
 use numbers::{bits_of, long_at};
 
-// Of the record of `size` bytes at `at`, of this kind and with these flags: the first of the rules 8 to 12 that its body breaks, or 0.
-pub fn fill_fields(f: &[u8], w: &mut ViewWords, k: Kind, fl: u8, at: usize, size: usize) -> u8
-    requires { Held f.now at size }
-    ensures { FilledIf k fl f.now at size result w.old w.new }
+// Of a known record of this file: the first of the rules 8 to 12 that its body breaks is the error.
+pub fn fill_fields(f: &[u8], w: &mut ViewWords, r: KnownRecord) -> Result<(), Fault>
+    requires { Held f.now r.at r.size }
+    ensures { FilledIf r.kind r.flags f.now r.at r.size (numbered result) w.old w.new }
 {
-    match k {
-        Kind::Library => fill_library(f, w, fl, at, size),
-        Kind::Struct => fill_struct(f, w, fl, at, size),
-        Kind::Cprpty => fill_cprpty(f, w, fl, at, size),
-        Kind::Property => fill_property(f, w, fl, at, size),
-        Kind::Layer => fill_layer(f, w, fl, at, size),
-        Kind::Box => fill_box(f, w, fl, at, size),
-        Kind::Poly => fill_poly(f, w, fl, at, size),
-        Kind::Wire => fill_wire(f, w, fl, at, size),
-        Kind::Text => fill_text(f, w, fl, at, size),
-        Kind::Sref => fill_sref(f, w, fl, at, size),
-        Kind::Endlib => fill_endlib(f, fl, at, size),
+    match r.kind {
+        Kind::Library => fill_library(f, w, r),
+        Kind::Struct => fill_struct(f, w, r),
+        Kind::Cprpty => fill_cprpty(f, w, r),
+        Kind::Property => fill_property(f, w, r),
+        Kind::Layer => fill_layer(f, w, r),
+        Kind::Box => fill_box(f, w, r),
+        Kind::Poly => fill_poly(f, w, r),
+        Kind::Wire => fill_wire(f, w, r),
+        Kind::Text => fill_text(f, w, r),
+        Kind::Sref => fill_sref(f, w, r),
+        Kind::Endlib => fill_endlib(f, r),
     }
 }
 
 // ---- a kind each: the rules, then the stores. The rules of the kinds that files are full of are compiled in here; `body_fault`, which the check calls too, is a call.
 
-fn fill_library(f: &[u8], w: &mut ViewWords, fl: u8, at: usize, size: usize) -> u8
-    requires { Held f.now at size }
-    ensures { FilledIf Kind.Library fl f.now at size result w.old w.new }
+fn fill_library(f: &[u8], w: &mut ViewWords, r: KnownRecord) -> Result<(), Fault>
+    requires { Held f.now r.at r.size }
+    ensures { FilledIf Kind.Library r.flags f.now r.at r.size (numbered result) w.old w.new }
 {
-    let from = at + Kind::HEADER_SIZE;
-    let to = at + size;
-    let fault = body_fault(Kind::Library, fl, &f[from..to]);
-    if fault != 0 {
-        return fault;
-    }
-    store_library(f, w, at, size);
-    0
+    body_fault(Kind::Library, r.flags, body_at(f, r))?;
+    store_library(f, w, r.at, r.size);
+    Ok(())
 }
 
-fn fill_struct(f: &[u8], w: &mut ViewWords, fl: u8, at: usize, size: usize) -> u8
-    requires { Held f.now at size }
-    ensures { FilledIf Kind.Struct fl f.now at size result w.old w.new }
+fn fill_struct(f: &[u8], w: &mut ViewWords, r: KnownRecord) -> Result<(), Fault>
+    requires { Held f.now r.at r.size }
+    ensures { FilledIf Kind.Struct r.flags f.now r.at r.size (numbered result) w.old w.new }
 {
-    let from = at + Kind::HEADER_SIZE;
-    let to = at + size;
-    let fault = body_fault(Kind::Struct, fl, &f[from..to]);
-    if fault != 0 {
-        return fault;
-    }
-    put_struct(w, struct_of(f, at, size));
-    0
+    body_fault(Kind::Struct, r.flags, body_at(f, r))?;
+    put_struct(w, struct_of(f, r.at, r.size));
+    Ok(())
 }
 
-fn fill_cprpty(f: &[u8], w: &mut ViewWords, fl: u8, at: usize, size: usize) -> u8
-    requires { Held f.now at size }
-    ensures { FilledIf Kind.Cprpty fl f.now at size result w.old w.new }
+fn fill_cprpty(f: &[u8], w: &mut ViewWords, r: KnownRecord) -> Result<(), Fault>
+    requires { Held f.now r.at r.size }
+    ensures { FilledIf Kind.Cprpty r.flags f.now r.at r.size (numbered result) w.old w.new }
 {
-    let from = at + Kind::HEADER_SIZE;
-    let to = at + size;
-    let fault = body_fault(Kind::Cprpty, fl, &f[from..to]);
-    if fault != 0 {
-        return fault;
-    }
-    let p = cprpty_of(f, at, size);
-    let number = p.number;
-    let value = p.value;
-    put_property(w, number, value);
-    0
+    body_fault(Kind::Cprpty, r.flags, body_at(f, r))?;
+    let p = cprpty_of(f, r.at, r.size);
+    put_property(w, p.number, p.value);
+    Ok(())
 }
 
-fn fill_property(f: &[u8], w: &mut ViewWords, fl: u8, at: usize, size: usize) -> u8
-    requires { Held f.now at size }
-    ensures { FilledIf Kind.Property fl f.now at size result w.old w.new }
+fn fill_property(f: &[u8], w: &mut ViewWords, r: KnownRecord) -> Result<(), Fault>
+    requires { Held f.now r.at r.size }
+    ensures { FilledIf Kind.Property r.flags f.now r.at r.size (numbered result) w.old w.new }
 {
-    let from = at + Kind::HEADER_SIZE;
-    let to = at + size;
-    let fault = property_fault(&f[from..to], fl);
-    if fault != 0 {
-        return fault;
-    }
-    let p = property_of(f, at, size);
-    let number = p.number;
-    let value = p.value;
-    put_property(w, number, value);
-    0
+    property_fault(body_at(f, r), r.flags)?;
+    let p = property_of(f, r.at, r.size);
+    put_property(w, p.number, p.value);
+    Ok(())
 }
 
-fn fill_layer(f: &[u8], w: &mut ViewWords, fl: u8, at: usize, size: usize) -> u8
-    requires { Held f.now at size }
-    ensures { FilledIf Kind.Layer fl f.now at size result w.old w.new }
+fn fill_layer(f: &[u8], w: &mut ViewWords, r: KnownRecord) -> Result<(), Fault>
+    requires { Held f.now r.at r.size }
+    ensures { FilledIf Kind.Layer r.flags f.now r.at r.size (numbered result) w.old w.new }
 {
-    let from = at + Kind::HEADER_SIZE;
-    let to = at + size;
-    let fault = layer_fault(&f[from..to], fl);
-    if fault != 0 {
-        return fault;
-    }
-    put_layer(w, layer_of(f, at, size));
-    0
+    layer_fault(body_at(f, r), r.flags)?;
+    put_layer(w, layer_of(f, r.at, r.size));
+    Ok(())
 }
 
-fn fill_box(f: &[u8], w: &mut ViewWords, fl: u8, at: usize, size: usize) -> u8
-    requires { Held f.now at size }
-    ensures { FilledIf Kind.Box fl f.now at size result w.old w.new }
+fn fill_box(f: &[u8], w: &mut ViewWords, r: KnownRecord) -> Result<(), Fault>
+    requires { Held f.now r.at r.size }
+    ensures { FilledIf Kind.Box r.flags f.now r.at r.size (numbered result) w.old w.new }
 {
-    let from = at + Kind::HEADER_SIZE;
-    let to = at + size;
-    let fault = box_fault(&f[from..to], fl);
-    if fault != 0 {
-        return fault;
-    }
-    let b = box_of(f, at, size);
-    let boxes = b.boxes;
-    put_list(w, 6, boxes);
-    0
+    box_fault(body_at(f, r), r.flags)?;
+    let b = box_of(f, r.at, r.size);
+    put_list(w, 6, b.boxes);
+    Ok(())
 }
 
-fn fill_poly(f: &[u8], w: &mut ViewWords, fl: u8, at: usize, size: usize) -> u8
-    requires { Held f.now at size }
-    ensures { FilledIf Kind.Poly fl f.now at size result w.old w.new }
+fn fill_poly(f: &[u8], w: &mut ViewWords, r: KnownRecord) -> Result<(), Fault>
+    requires { Held f.now r.at r.size }
+    ensures { FilledIf Kind.Poly r.flags f.now r.at r.size (numbered result) w.old w.new }
 {
-    let from = at + Kind::HEADER_SIZE;
-    let to = at + size;
-    let fault = poly_fault(&f[from..to], fl);
-    if fault != 0 {
-        return fault;
-    }
-    let p = poly_of(f, at, size);
-    let points = p.points;
-    put_list(w, 6, points);
-    0
+    poly_fault(body_at(f, r), r.flags)?;
+    let p = poly_of(f, r.at, r.size);
+    put_list(w, 6, p.points);
+    Ok(())
 }
 
-fn fill_wire(f: &[u8], w: &mut ViewWords, fl: u8, at: usize, size: usize) -> u8
-    requires { Held f.now at size }
-    ensures { FilledIf Kind.Wire fl f.now at size result w.old w.new }
+fn fill_wire(f: &[u8], w: &mut ViewWords, r: KnownRecord) -> Result<(), Fault>
+    requires { Held f.now r.at r.size }
+    ensures { FilledIf Kind.Wire r.flags f.now r.at r.size (numbered result) w.old w.new }
 {
-    let from = at + Kind::HEADER_SIZE;
-    let to = at + size;
-    let fault = wire_fault(&f[from..to], fl);
-    if fault != 0 {
-        return fault;
-    }
-    put_wire(w, wire_of(f, at, size));
-    0
+    wire_fault(body_at(f, r), r.flags)?;
+    put_wire(w, wire_of(f, r.at, r.size));
+    Ok(())
 }
 
-fn fill_text(f: &[u8], w: &mut ViewWords, fl: u8, at: usize, size: usize) -> u8
-    requires { Held f.now at size }
-    ensures { FilledIf Kind.Text fl f.now at size result w.old w.new }
+fn fill_text(f: &[u8], w: &mut ViewWords, r: KnownRecord) -> Result<(), Fault>
+    requires { Held f.now r.at r.size }
+    ensures { FilledIf Kind.Text r.flags f.now r.at r.size (numbered result) w.old w.new }
 {
-    let from = at + Kind::HEADER_SIZE;
-    let to = at + size;
-    let fault = text_fault(&f[from..to], fl);
-    if fault != 0 {
-        return fault;
-    }
-    store_text(f, w, at, size);
-    0
+    text_fault(body_at(f, r), r.flags)?;
+    store_text(f, w, r.at, r.size);
+    Ok(())
 }
 
-fn fill_sref(f: &[u8], w: &mut ViewWords, fl: u8, at: usize, size: usize) -> u8
-    requires { Held f.now at size }
-    ensures { FilledIf Kind.Sref fl f.now at size result w.old w.new }
+fn fill_sref(f: &[u8], w: &mut ViewWords, r: KnownRecord) -> Result<(), Fault>
+    requires { Held f.now r.at r.size }
+    ensures { FilledIf Kind.Sref r.flags f.now r.at r.size (numbered result) w.old w.new }
 {
-    let from = at + Kind::HEADER_SIZE;
-    let to = at + size;
-    let fault = body_fault(Kind::Sref, fl, &f[from..to]);
-    if fault != 0 {
-        return fault;
-    }
-    store_sref(f, w, fl, at, size);
-    0
+    body_fault(Kind::Sref, r.flags, body_at(f, r))?;
+    store_sref(f, w, r.flags, r.at, r.size);
+    Ok(())
 }
 
 // Nothing is stored.
-fn fill_endlib(f: &[u8], fl: u8, at: usize, size: usize) -> u8
-    requires { Held f.now at size }
-    ensures { result ≡ body_fault Kind.Endlib fl (rec_at f.now at size).body }
+fn fill_endlib(f: &[u8], r: KnownRecord) -> Result<(), Fault>
+    requires { Held f.now r.at r.size }
+    ensures { numbered result ≡ body_fault Kind.Endlib r.flags (rec_at f.now r.at r.size).body }
 {
-    let from = at + Kind::HEADER_SIZE;
-    let to = at + size;
-    body_fault(Kind::Endlib, fl, &f[from..to])
+    body_fault(Kind::Endlib, r.flags, body_at(f, r))
+}
+
+// What comes after the header.
+fn body_at(f: &[u8], r: KnownRecord) -> &[u8]
+    requires { Held f.now r.at r.size }
+    ensures bytes { result.now ≡ (rec_at f.now r.at r.size).body }
+    ensures body { Body result.now }
+{
+    &f[r.at + Kind::HEADER_SIZE..r.at + r.size]
 }
 
 // ---- kinds with reals, points or counts: these are stored as the words that they are, and no double is made
@@ -255,13 +208,10 @@ fn pair_at(f: &[u8], at: usize) -> u64
     pair_word(first, second)
 }
 
-// 0 for none.
+// 0 for none: a word of a C caller's view, which says so (the C interface), and no `Option`. As `word_if`, which reads another value: one function given a closure would be no plainer.
 fn pair_if(f: &[u8], at: usize, there: bool) -> u64
     requires { there ≡ true → at + 8 ≤ length f.now }
     ensures { result ≡ cond there (pair_at f.now at) 0 }
 {
-    if there {
-        return pair_at(f, at);
-    }
-    0
+    if there { pair_at(f, at) } else { 0 }
 }

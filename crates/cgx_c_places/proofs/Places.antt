@@ -6,26 +6,16 @@ use Prim.Native.Nat.{ℕ, zero, suc, ◌/◌, ◌%◌}
 use lib.Dec.{eqb, eqb-suc-zero}
 use lib.ListN.{get_or}
 use Rattle.cgx_format_cursor.specs.declared.Cursor.{Cursor}
-use Rattle.cgx_format_cursor.specs.Cursors.{run_in, context_in, place_in, state_of, cursor_of, run_first, run_count, first_of}
-use Rattle.cgx_format_cursor.proofs.Laws.{number-back}
+use Rattle.cgx_format_cursor.specs.Cursors.{run_in, context_in, place_in, state_of, cursor_of, run_first, first_of}
+use Rattle.cgx_format_cursor.proofs.Laws.{number-back, run-first, run-count}
 use Rattle.cgx_c_places.specs.Words.{bit, seen_word, cursor_words, cursor_in}
 
 -- ---- a run of none has no first
-
-first-is : (first count : ℕ) → first_of first count 0 ≡ run_first (run_in first count)
-unfolding first_of run_in
-first-is first zero = refl
-first-is first (suc n) = rw (eqb-suc-zero n) refl
 
 first-of-run : (first count : ℕ) → first_of first count 0 ≡ run_first (run_in (first_of first count 0) count)
 unfolding first_of run_in
 first-of-run first zero = refl
 first-of-run first (suc n) = rw (eqb-suc-zero n) refl
-
-count-is : (first count : ℕ) → count ≡ run_count (run_in first count)
-unfolding run_in
-count-is first zero = refl
-count-is first (suc n) = rw (eqb-suc-zero n) refl
 
 -- ---- a caller's words
 
@@ -39,7 +29,7 @@ cursor-read w =
             cell = number-back (get_or w 1 0) i;
             layer = number-back (get_or w 2 0) i;
             first = first-of-run (get_or w 3 0) (get_or w 4 0) i;
-            count = count-is (first_of (get_or w 3 0) (get_or w 4 0) 0) (get_or w 4 0) i;
+            count = run-count (first_of (get_or w 3 0) (get_or w 4 0) 0) (get_or w 4 0) i;
             library = eqb (get_or w 5 0 % 2) 1;
             fresh = eqb (get_or w 5 0 / 2 % 2) 1;
             ended = eqb (get_or w 5 0 / 4 % 2) 1;
@@ -67,7 +57,7 @@ seen_back true true true = record { library = refl; fresh = refl; ended = refl }
 -- The first of a cursor that is a place's.
 first_back : (c : Cursor) → c ≡ cursor_of (place_in c) → first_of c.state.first c.state.count 0 ≡ c.state.first
 unfolding cursor_of state_of place_in context_in
-first_back c q = first-is c.state.first c.state.count ∙ sym (ap (λ (d : Cursor). d.state.first) q)
+first_back c q = run-first c.state.first c.state.count ∙ sym (ap (λ (d : Cursor). d.state.first) q)
 
 pub cursor-back : (c : Cursor) → c ≡ cursor_of (place_in c) → cursor_in (cursor_words c) ≡ c
 unfolding cursor_in cursor_words

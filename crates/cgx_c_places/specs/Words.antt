@@ -1,7 +1,5 @@
 -- Places in a C caller's memory: the six words of eight bytes that a `cgx_place` of include/cgx.h is made of. Definitions only.
-use Rattle.std.specs.Prelude.{Bool, cond, List, [], ◌∷◌, ℕ, ◌+◌, ◌*◌, ◌/◌, ◌%◌, eqb, get_or}
-use Rattle.cgx_spec.specs.declared.Offset.{Offset}
-use Rattle.cgx_spec.specs.declared.Offset.TheVariants.{Nowhere, At}
+use Rattle.std.specs.Prelude.{Bool, cond, List, [], ◌∷◌, ℕ, ◌+◌, ◌*◌, ◌/◌, ◌%◌, eqb, get_or, None, Option, Some}
 use Rattle.cgx_format_cursor.specs.declared.Cursor.{Cursor}
 use Rattle.cgx_format_cursor.specs.Cursors.{first_of}
 
@@ -36,6 +34,6 @@ cursor_in w =
     }
 
 -- What a caller's number is after a refusal that names this offset, or none.
-abbrev pub told_at : Offset → ℕ → ℕ
-told_at Nowhere old = old
-told_at (At n) old = n
+abbrev pub told_at : Option ℕ → ℕ → ℕ
+told_at None old = old
+told_at (Some n) old = n

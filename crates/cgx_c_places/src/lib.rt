@@ -1,15 +1,14 @@
 // Places in a C caller's memory. A caller lends a cgx_place of include/cgx.h, which is taken as six words of eight bytes, and a number for the offset that a refusal names.
 #![tactic(auto)]
 
-ghost use Rattle.std.specs.Prelude.{◌≡◌, ◌≤◌};
-ghost use Rattle.cgx_format_cursor.specs.Cursors.{first_of};
-ghost use Rattle.cgx_c_places.specs.Words.{bit as bit_of, seen_word, cursor_words, cursor_in, told_at};
+ghost use Rattle.std.specs.Prelude.{◌≡◌};
+ghost use Rattle.cgx_c_places.specs.Words.{seen_word, cursor_words, cursor_in, told_at};
 
-use cgx_format_cursor::{Cursor, State};
-use cgx_spec::Offset;
+use cgx_format_cursor::{Cursor, State, first_of};
 
 pub type PlaceWords = [u64; 6];
 
+// A function and no `From`: words and cursor are both types of other crates.
 pub fn cursor_of(w: &PlaceWords) -> Cursor
     ensures { result ≡ cursor_in w.now }
 {
@@ -24,20 +23,14 @@ pub fn cursor_of(w: &PlaceWords) -> Cursor
         state: State {
             cell,
             layer,
-            first: first_of(first, count),
+            // The first of a run of none is not looked at.
+            first: first_of(first, count, 0),
             count,
             library: seen % 2 == 1,
             fresh: seen / 2 % 2 == 1,
             ended: seen / 4 % 2 == 1,
         },
     }
-}
-
-// The first of a run of none is not looked at.
-fn first_of(first: usize, count: usize) -> usize
-    ensures { result ≡ first_of first count 0 }
-{
-    if count == 0 { 0 } else { first }
 }
 
 // All words at once: a contract knows nothing of the length of a lent array, so that six stores could not be said to be all of it.
@@ -59,24 +52,14 @@ pub fn put_cursor(w: &mut PlaceWords, c: Cursor)
 fn seen_word(library: bool, fresh: bool, ended: bool) -> u64
     ensures { result ≡ seen_word library fresh ended }
 {
-    bit(library) + 2 * bit(fresh) + 4 * bit(ended)
-}
-
-fn bit(b: bool) -> u64
-    ensures value { result ≡ bit_of b }
-    ensures small { result ≤ 1 }
-{
-    if b { 1 } else { 0 }
+    u64::from(library) + 2 * u64::from(fresh) + 4 * u64::from(ended)
 }
 
 // The offset that a refusal names: where it names none, the caller's number stays.
-pub fn put_offset(at: &mut u64, o: Offset)
+pub fn put_offset(at: &mut u64, o: Option<usize>)
     ensures { at.new ≡ told_at o at.old }
 {
-    match o {
-        Offset::Nowhere => {}
-        Offset::At(n) => {
-            *at = n as u64;
-        }
+    if let Some(n) = o {
+        *at = n as u64;
     }
 }

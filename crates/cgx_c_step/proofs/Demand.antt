@@ -30,8 +30,8 @@ module _ (f : List ℕ) (next : (m : Memory) → LentStep f m) where
       ap (and_then (view_meant f v)) (given_is n (next m).left (next m).lent.outcome (cursor_in m.place) (next m).lent.goes_on ∙ ap (reads n f) (means-at m q e))
   given_is zero m Done c e = refl
   given_is (suc n) m Done c e = refl
-  given_is zero m (Refused k o q) c e = refl
-  given_is (suc n) m (Refused k o q) c e = refl
+  given_is zero m (Refused r q) c e = refl
+  given_is (suc n) m (Refused r q) c e = refl
 
 reads_all : (bs : List ℕ) → let f = header ++ bs in (next : (m : Memory) → LentStep f m) (m : Memory) → m.place ≡ cursor_words (cursor_of first_place)
     → given_in (length f) f next (next m).left (next m).lent.outcome ≡ record { views = views_of f; last = ending (verdict_of f) }

@@ -1,6 +1,5 @@
 -- Demand 2 in a C caller's memory: what a caller is given that steps from the first place until a step answers something else than 0. Statements only.
-use Rattle.std.specs.Prelude.{◌≡◌, List, [], ◌++◌, ℕ, zero, suc, length}
-use Rattle.cgx_spec.specs.declared.Offset.TheVariants.{Nowhere}
+use Rattle.std.specs.Prelude.{◌≡◌, List, [], ◌++◌, ℕ, zero, suc, length, None}
 use Rattle.cgx_spec.specs.Files.{header, views_of, verdict_of}
 use Rattle.cgx_spec.specs.Walking.{first_place, refused_at, ending, Reads, and_then}
 use Rattle.cgx_format_kinds.specs.Meant.{view_meant}
@@ -25,12 +24,12 @@ pub record LentStep (f : List ℕ) (m : Memory) : Type 0 where
 
 -- A caller to whom a step has left the memory m with this outcome, and that asks at most n times more: the views whose words it is left, and the answer that ends them.
 unfoldable pub given_in : ℕ → (f : List ℕ) → ((m : Memory) → LentStep f m) → Memory → Outcome → Reads
-given_in zero f next m (Record v q) = record { views = []; last = refused_at 0 Nowhere }
+given_in zero f next m (Record v q) = record { views = []; last = refused_at 0 None }
 given_in (suc n) f next m (Record v q) = and_then (view_meant f v) (given_in n f next (next m).left (next m).lent.outcome)
 given_in zero f next m Done = record { views = []; last = answer_meant f Done }
 given_in (suc n) f next m Done = record { views = []; last = answer_meant f Done }
-given_in zero f next m (Refused k o q) = record { views = []; last = answer_meant f (Refused k o q) }
-given_in (suc n) f next m (Refused k o q) = record { views = []; last = answer_meant f (Refused k o q) }
+given_in zero f next m (Refused r q) = record { views = []; last = answer_meant f (Refused r q) }
+given_in (suc n) f next m (Refused r q) = record { views = []; last = answer_meant f (Refused r q) }
 
 pub record LentStepsDemand : Type 0 where
   -- Whatever the steps answer and leave, as long as it is what they promise: from the first place on, with a view and a number that hold anything, the caller is given exactly the views of

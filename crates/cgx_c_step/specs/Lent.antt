@@ -1,9 +1,6 @@
 -- A step over the place, the view and the offset that C lends it: what it answers, and what it leaves in them. Definitions only.
-use Rattle.std.specs.Prelude.{◌≡◌, List, ℕ, ◌+◌, ◌-◌, take, drop}
-use Rattle.std.proofs.Math.Option.{some}
-use Rattle.cgx_spec.specs.declared.Kind.{Kind}
-use Rattle.cgx_spec.specs.declared.Verdict.{Verdict}
-use Rattle.cgx_spec.specs.declared.Verdict.TheVariants.{Accepted, Refused as NotAccepted}
+use Rattle.std.specs.Prelude.{◌≡◌, List, ℕ, ◌+◌, ◌-◌, take, drop, Option, None, Some}
+use Rattle.cgx_format_headers.specs.declared.KnownRecord.{KnownRecord}
 use Rattle.cgx_spec.specs.Order.{allowed, next}
 use Rattle.cgx_format_records.specs.Faults.{FaultIs}
 use Rattle.cgx_format_kinds.specs.declared.View.{View}
@@ -22,31 +19,31 @@ use Rattle.cgx_c_views.specs.ViewWords.{view_words}
 abbrev pub answer_of : Outcome → ℕ
 answer_of (Record v q) = 0
 answer_of Done = 256
-answer_of (Refused n o q) = n
+answer_of (Refused r q) = r.number
 
 -- The words of a place p, after a step from there: only a record moves it.
 abbrev pub place_left : Outcome → List ℕ → List ℕ
 place_left (Record v q) p = cursor_words q
 place_left Done p = p
-place_left (Refused n o q) p = p
+place_left (Refused r q) p = p
 
 -- The words of a view: only a record of f fills it, from the first word on, and no word after its own changes.
 abbrev pub view_left : List ℕ → Outcome → List ℕ → List ℕ
 view_left f (Record v q) w = put w 0 (view_words f v)
 view_left f Done w = w
-view_left f (Refused n o q) w = w
+view_left f (Refused r q) w = w
 
 -- The offset that a refusal names: only a refusal that names one is told.
 abbrev pub offset_left : Outcome → ℕ → ℕ
 offset_left (Record v q) a = a
 offset_left Done a = a
-offset_left (Refused n o q) a = told_at o a
+offset_left (Refused r q) a = told_at r.at a
 
 -- Where the next step goes on.
 abbrev pub next_from : Outcome → Cursor → Cursor
 next_from (Record v q) p = q
 next_from Done p = p
-next_from (Refused n o q) p = p
+next_from (Refused r q) p = p
 
 -- A step over the file f: from the words p₀ and v₀ of a place and a view, and a number a₀, it answers r and leaves p₁, v₁ and a₁.
 pub record StepLent (f p₀ v₀ : List ℕ) (a₀ r : ℕ) (p₁ v₁ : List ℕ) (a₁ : ℕ) : Type 0 where
@@ -63,27 +60,18 @@ pub record StepLent (f p₀ v₀ : List ℕ) (a₀ r : ℕ) (p₁ v₁ : List �
 
 -- ---- the parts of a step
 
--- A record of n bytes, of kind k and with flags fl, that is at an offset of f after the state s, is left in lent memory: the words p₁ of a place, and those of a view from v₀ to v₁.
-pub record RecordLent (f : List ℕ) (s : State) (at n : ℕ) (k : Kind) (fl : ℕ) (p₁ v₀ v₁ : List ℕ) : Type 0 where
+-- A known record of f after the state s is left in lent memory: the words p₁ of a place, and those of a view from v₀ to v₁.
+pub record RecordLent (f : List ℕ) (s : State) (r : KnownRecord) (p₁ v₀ v₁ : List ℕ) : Type 0 where
   pub view : View
-  pub viewed : Viewed f at (context_in s) at n k view
+  pub viewed : Viewed f r.at (context_in s) r.at r.size r.kind view
   pub words : v₁ ≡ put v₀ 0 (view_words f view)
   -- after it
   pub after : State
-  pub follows : (context_in after ≡ next (context_in s) at (some k)) × (after ≡ state_of (context_in after))
-  pub place : p₁ ≡ cursor_words (record { at = at + n; state = after })
+  pub follows : (context_in after ≡ next (context_in s) r.at (Some r.kind)) × (after ≡ state_of (context_in after))
+  pub place : p₁ ≡ cursor_words (record { at = r.at + r.size; state = after })
 
--- The record judged, and left there if it breaks no rule: r is the first of the rules 6 to 12 that it breaks, or 0.
-pub record RecordIf (f : List ℕ) (s : State) (at n : ℕ) (k : Kind) (fl r : ℕ) (p₀ v₀ p₁ v₁ : List ℕ) : Type 0 where
-  pub fault : FaultIs (allowed (context_in s) (some k)) (some k) fl (take (at + n - (at + 4)) (drop (at + 4) f)) r
-  pub lent : r ≡ 0 → RecordLent f s at n k fl p₁ v₀ v₁
-  pub kept : (r ≡ 0 → ⊥) → (p₁ ≡ p₀) × (v₁ ≡ v₀)
-
--- The end of a walk: done, or a refusal and its offset.
-abbrev pub answer_at : Verdict → ℕ
-answer_at Accepted = 256
-answer_at (NotAccepted n at) = n
-
-abbrev pub offset_at : Verdict → ℕ → ℕ
-offset_at Accepted a = a
-offset_at (NotAccepted n at) a = at
+-- The record judged, and left there if it breaks no rule: n is the first of the rules 6 to 12 that it breaks, if any.
+pub record RecordIf (f : List ℕ) (s : State) (r : KnownRecord) (n : Option ℕ) (p₀ v₀ p₁ v₁ : List ℕ) : Type 0 where
+  pub fault : FaultIs (allowed (context_in s) (Some r.kind)) (Some r.kind) r.flags (take (r.at + r.size - (r.at + 4)) (drop (r.at + 4) f)) n
+  pub lent : n ≡ None → RecordLent f s r p₁ v₀ v₁
+  pub kept : (n ≡ None → ⊥) → (p₁ ≡ p₀) × (v₁ ≡ v₀)

@@ -1,12 +1,11 @@
 -- What is proved of the words of a view, from the law that they fit, the law of stores, and where the record has its reals. Assumes nothing.
+use Rattle.std.specs.Prelude.{None, Option, Some}
 use mathlib.Core.List.{List, ◌++◌}
 use mathlib.Core.Path.{◌≡◌, refl, ap, ◌∙◌}
 use Prim.Native.Nat.{ℕ, ◌+◌}
 use native.Mathlib.Omega.{arith}
 use lib.ListN.{length, take, drop}
 use lib.Seq.{take_at, drop_at}
-use Rattle.cgx_format_kinds.specs.declared.OptionalReal.{OptionalReal}
-use Rattle.cgx_format_kinds.specs.declared.OptionalReal.TheVariants.{Missing, Given}
 use Rattle.cgx_format_kinds.specs.declared.Fields.{Fields}
 use Rattle.cgx_format_kinds.specs.declared.Fields.TheVariants as fields
 use Rattle.cgx_format_kinds.specs.declared.View.{View}
@@ -16,6 +15,7 @@ use Rattle.cgx_read_fields.specs.Views.{FieldsAt, AnswerAt}
 use Rattle.cgx_c_views.specs.ViewWords.{optional_word, field_words, head_words, view_words}
 use Rattle.cgx_c_views.specs.Demand.{OptionalHeld, RealsHeld, ViewWordsDemand}
 use Rattle.cgx_c_views.proofs.Stored.{view-fits}
+use Rattle.cgx_spec.specs.declared.Real.{Real}
 
 -- a store from the first word on
 at_first : (w f : List ℕ) (v : View) → length w ≡ 14 → put w 0 (view_words f v) ≡ view_words f v ++ drop (length (view_words f v)) w
@@ -31,10 +31,10 @@ others w f v e = ap (drop (length (view_words f v))) (at_first w f v e) ∙ drop
 
 -- ---- reals
 
-optional-held : (f : List ℕ) (b : ℕ) (o : OptionalReal) → AnswerAt f b o → OptionalHeld (optional_word f b o) o
+optional-held : (f : List ℕ) (b : ℕ) (o : Option Real) → AnswerAt f b o → OptionalHeld (optional_word f b o) o
 unfolding optional_word
-optional-held f b Missing h = refl
-optional-held f b (Given r) h = h
+optional-held f b None h = refl
+optional-held f b (Some r) h = h
 
 reals : (f : List ℕ) (v : View) (e : ℕ) → FieldsAt v.flags f v.at e v.fields → RealsHeld (view_words f v) v.fields
 unfolding FieldsAt view_words field_words head_words

@@ -1,26 +1,24 @@
 -- What is stored in the code's order are the words of a kind, and of a view. Assumes nothing.
+use Rattle.std.specs.Prelude.{None, Option, Some}
 use mathlib.Core.Path.{◌≡◌, refl, ap, ◌∙◌}
 use mathlib.Core.List.{List, [], ◌∷◌, ◌++◌}
-use Prim.Native.Nat.{ℕ, zero, suc, ◌+◌, ◌<◌, ◌≤◌}
+use Prim.Native.Nat.{ℕ, suc, ◌+◌, ◌<◌, ◌≤◌}
 use native.Mathlib.Omega.{arith}
 use native.Mathlib.Numerals.{add-one}
-use lib.Dec.{eqb-suc-zero}
 use lib.IntN.{ℤ}
 use lib.ListN.{length, set}
 use lib.Seq.{set_comm}
 use Rattle.cgx_spec.specs.declared.Kind.{Kind}
-use Rattle.cgx_format_kinds.specs.declared.Array.{Array}
-use Rattle.cgx_format_kinds.specs.declared.Array.TheVariants.{Single, Of as ArrayOf}
-use Rattle.cgx_format_kinds.specs.declared.Name.{Name}
-use Rattle.cgx_format_kinds.specs.declared.Name.TheVariants.{Absent, Present}
+use Rattle.cgx_format_kinds.specs.declared.Grid.{Grid}
 use Rattle.cgx_format_kinds.specs.declared.Fields.{Fields}
 use Rattle.cgx_format_kinds.specs.declared.Fields.TheVariants as fields
 use Rattle.cgx_format_kinds.specs.declared.View.{View}
 use Rattle.buffers.specs.Put.{put}
 use Rattle.buffers.proofs.Puts.{put_next}
-use Rattle.cgx_format_cursor.specs.Cursors.{offset_in, run_in, run_first, run_count, first_of}
-use Rattle.cgx_format_cursor.proofs.Laws.{number-back}
+use Rattle.cgx_format_cursor.specs.Cursors.{offset_in, run_in, first_of}
+use Rattle.cgx_format_cursor.proofs.Laws.{number-back, run-first, run-count}
 use Rattle.cgx_c_views.specs.ViewWords.{span_words, list_words, array_words, layer_words, field_words, head_word, head_words, view_words}
+use Rattle.cgx_format_kinds.specs.declared.TextSpan.{TextSpan}
 
 -- ---- rows of stores
 
@@ -41,18 +39,6 @@ unfolding put
 put-swap l i j [] ws h = refl
 put-swap l i j (v ∷ vs) ws h =
     ap (λ (x : List ℕ). put x (suc i) vs) (set_before l i j v ws (omega arith)) ∙ put-swap (set l i v) (suc i) j vs ws (omega arith)
-
--- ---- heads
-
-run-first : (first n : ℕ) → first_of first n 0 ≡ run_first (run_in first n)
-unfolding run_in first_of
-run-first first zero = refl
-run-first first (suc n) = rw (eqb-suc-zero n) refl
-
-run-count : (first n : ℕ) → n ≡ run_count (run_in first n)
-unfolding run_in
-run-count first zero = refl
-run-count first (suc n) = rw (eqb-suc-zero n) refl
 
 -- ---- what is stored in the code's order
 
@@ -92,15 +78,15 @@ module _ (w : List ℕ) where
 
 -- ---- a view has room for every kind: a store of its words leaves none out
 
-layer_fits : (n d : ℤ) (m : Name) → length (layer_words n d m) ≤ 8
+layer_fits : (n d : ℤ) (m : Option TextSpan) → length (layer_words n d m) ≤ 8
 unfolding layer_words span_words
-layer_fits n d Absent = omega arith
-layer_fits n d (Present s) = omega arith
+layer_fits n d None = omega arith
+layer_fits n d (Some s) = omega arith
 
-array-fits : (a : Array) (x y : ℕ) → length (array_words a ++ x ∷ y ∷ []) ≡ 5
+array-fits : (a : Option Grid) (x y : ℕ) → length (array_words a ++ x ∷ y ∷ []) ≡ 5
 unfolding array_words
-array-fits Single x y = refl
-array-fits (ArrayOf c r a u) x y = refl
+array-fits None x y = refl
+array-fits (Some g) x y = refl
 
 fields_fit : (f : List ℕ) (fl at : ℕ) (r : Fields) → length (field_words f fl at r) ≤ 8
 unfolding field_words span_words list_words

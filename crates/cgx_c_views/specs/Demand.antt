@@ -1,19 +1,18 @@
 -- What is proved of a view in a C caller's memory: all of its words are stored there, and its reals are those of the record. Statements only.
-use Rattle.std.specs.Prelude.{List, ◌≡◌, ℕ, ◌≤◌, length, take, drop, get_or}
+use Rattle.std.specs.Prelude.{List, ◌≡◌, ℕ, ◌≤◌, length, take, drop, get_or, None, Option, Some}
 use Rattle.cgx_spec.specs.Reals.{answer}
-use Rattle.cgx_format_kinds.specs.declared.OptionalReal.{OptionalReal}
-use Rattle.cgx_format_kinds.specs.declared.OptionalReal.TheVariants.{Missing, Given}
 use Rattle.cgx_format_kinds.specs.declared.Fields.{Fields}
 use Rattle.cgx_format_kinds.specs.declared.Fields.TheVariants.{Library, Struct, Cprpty, Property, Layer, Box, Poly, Wire, Text, Sref, Endlib}
 use Rattle.cgx_format_kinds.specs.declared.View.{View}
 use Rattle.buffers.specs.Put.{put}
 use Rattle.cgx_read_fields.specs.Views.{FieldsAt}
 use Rattle.cgx_c_views.specs.ViewWords.{view_words}
+use Rattle.cgx_spec.specs.declared.Real.{Real}
 
 -- A real that an SREF may not have is the answer of the word x, which is 0 where there is none.
-abbrev pub OptionalHeld : ℕ → OptionalReal → Type 0
-OptionalHeld x Missing = x ≡ 0
-OptionalHeld x (Given r) = r ≡ answer x
+abbrev pub OptionalHeld : ℕ → Option Real → Type 0
+OptionalHeld x None = x ≡ 0
+OptionalHeld x (Some r) = r ≡ answer x
 
 -- The reals of a record are the answers of words of its view: munit and uunit of words 6 and 7, angle and magnif of words 7 and 8.
 abbrev pub RealsHeld : List ℕ → Fields → Type 0

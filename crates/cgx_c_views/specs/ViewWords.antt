@@ -1,26 +1,21 @@
 -- Views in a C caller's memory: the words of eight bytes, the low byte first, that a `cgx_view` of include/cgx.h is made of. Definitions only.
-use Rattle.std.specs.Prelude.{List, [], ◌∷◌, ◌++◌, ℕ, ◌+◌, ◌*◌, ◌^◌, ℤ}
+use Rattle.std.specs.Prelude.{List, [], ◌∷◌, ◌++◌, ℕ, ◌+◌, ◌*◌, ◌^◌, ℤ, None, Option, Some}
 use Rattle.cgx_spec.specs.declared.Kind.{Kind}
-use Rattle.cgx_spec.specs.declared.Offset.{Offset}
 use Rattle.cgx_spec.specs.declared.Run.{Run}
 use Rattle.cgx_spec.specs.Numbers.{untwos}
 use Rattle.cgx_spec.specs.Kinds.{type_for}
 use Rattle.cgx_format_kinds.specs.declared.TextSpan.{TextSpan}
-use Rattle.cgx_format_kinds.specs.declared.Name.{Name}
-use Rattle.cgx_format_kinds.specs.declared.Name.TheVariants.{Absent, Present}
 use Rattle.cgx_format_kinds.specs.declared.Date.{Date}
 use Rattle.cgx_format_kinds.specs.declared.Point.{Point}
 use Rattle.cgx_format_kinds.specs.declared.ItemList.{ItemList}
-use Rattle.cgx_format_kinds.specs.declared.OptionalReal.{OptionalReal}
-use Rattle.cgx_format_kinds.specs.declared.OptionalReal.TheVariants.{Missing, Given}
-use Rattle.cgx_format_kinds.specs.declared.Array.{Array}
-use Rattle.cgx_format_kinds.specs.declared.Array.TheVariants.{Single, Of}
+use Rattle.cgx_format_kinds.specs.declared.Grid.{Grid}
 use Rattle.cgx_format_kinds.specs.declared.Fields.{Fields}
 use Rattle.cgx_format_kinds.specs.declared.Fields.TheVariants.{Library, Struct, Cprpty, Property, Layer, Box, Poly, Wire, Text, Sref, Endlib}
 use Rattle.cgx_format_kinds.specs.declared.View.{View}
 use Rattle.cgx_format_cursor.specs.Cursors.{offset_number, run_first, run_count}
 use Rattle.cgx_format_sref.specs.Layouts.{sref_layout}
 use Rattle.cgx_read_fields.specs.Views.{word_at}
+use Rattle.cgx_spec.specs.declared.Real.{Real}
 
 -- The bits of a long and of a short, in two's complement.
 abbrev pub long_bits : ℤ → ℕ
@@ -49,22 +44,22 @@ unfoldable pub list_words : ItemList → List ℕ
 list_words r = r.first ∷ r.count ∷ []
 
 -- A real is its own eight bytes of the file, from byte b on, as one number.
-unfoldable pub optional_word : List ℕ → ℕ → OptionalReal → ℕ
-optional_word f b Missing = 0
-optional_word f b (Given r) = word_at f b
+unfoldable pub optional_word : List ℕ → ℕ → Option Real → ℕ
+optional_word f b None = 0
+optional_word f b (Some r) = word_at f b
 
 -- Columns and rows, and the two points.
-unfoldable pub array_words : Array → List ℕ
-array_words Single = 0 ∷ 0 ∷ 0 ∷ []
-array_words (Of cols rows across up) = pair_word cols rows ∷ point_word across ∷ point_word up ∷ []
+unfoldable pub array_words : Option Grid → List ℕ
+array_words None = 0 ∷ 0 ∷ 0 ∷ []
+array_words (Some g) = pair_word g.cols g.rows ∷ point_word g.across ∷ point_word g.up ∷ []
 
 unfoldable pub layer_word : ℤ → ℤ → ℕ
 layer_word number datatype = short_bits number + 2 ^ 16 * short_bits datatype
 
 -- The layer's number, its datatype and whether it has a name; the name.
-unfoldable pub layer_words : ℤ → ℤ → Name → List ℕ
-layer_words number datatype Absent = layer_word number datatype ∷ 0 ∷ 0 ∷ []
-layer_words number datatype (Present s) = (layer_word number datatype + 2 ^ 32) ∷ span_words s
+unfoldable pub layer_words : ℤ → ℤ → Option TextSpan → List ℕ
+layer_words number datatype None = layer_word number datatype ∷ 0 ∷ 0 ∷ []
+layer_words number datatype (Some s) = (layer_word number datatype + 2 ^ 32) ∷ span_words s
 
 -- The words of a kind's fields, of a record of f with these flags at an offset: a union in C, of which no more is stored than the kind has.
 unfoldable pub field_words : List ℕ → ℕ → ℕ → Fields → List ℕ
@@ -86,7 +81,7 @@ unfoldable pub head_word : Kind → ℕ → ℕ
 head_word k flags = type_for k + 2 ^ 32 * flags
 
 -- The six words that every kind has: 0 for a cell or a layer that is none, and a run of none is 0, 0.
-unfoldable pub head_words : Kind → ℕ → ℕ → Offset → Offset → Run → List ℕ
+unfoldable pub head_words : Kind → ℕ → ℕ → Option ℕ → Option ℕ → Option Run → List ℕ
 head_words k flags at cell layer run = head_word k flags ∷ at ∷ offset_number cell ∷ offset_number layer ∷ run_first run ∷ run_count run ∷ []
 
 -- The words of a view of f: those, then its fields.

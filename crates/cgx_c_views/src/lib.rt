@@ -3,12 +3,12 @@
 #![tactic(auto)]
 
 ghost use Rattle.std.specs.Prelude.{◌≡◌, ◌∷◌, ◌+◌, ◌*◌, ◌^◌, ◌<◌, ◌≤◌};
-ghost use Rattle.cgx_spec.specs.Kinds.{type_for};
 ghost use Rattle.buffers.specs.Put.{put};
-ghost use Rattle.cgx_format_cursor.specs.Cursors.{offset_in, run_in, first_of};
+ghost use Rattle.cgx_format_cursor.specs.Cursors.{offset_in, run_in};
 ghost use Rattle.cgx_c_views.specs.ViewWords.{long_bits, short_bits, date_word, span_words, list_words, layer_word, layer_words, head_word, head_words};
 
-use cgx_format_kinds::{Date, ItemList, Layer, Name, Struct, TextSpan, Wire};
+use cgx_format_cursor::first_of;
+use cgx_format_kinds::{Date, ItemList, Layer, Struct, TextSpan, Wire};
 use cgx_spec::Kind;
 use numbers::{long_bits, short_bits};
 
@@ -16,7 +16,8 @@ pub type ViewWords = [u64; 14];
 
 // ---- what every kind has
 
-// The offsets of cell and layer, 0 for none, and a run of so many: none, whatever its first, where there are 0.
+// The offsets of cell and layer, 0 for none, as a state and the words of a C caller's view have them (the C interface), and a run of so many: none, whatever its
+// first, where there are 0.
 pub fn put_head(
     w: &mut ViewWords,
     k: Kind,
@@ -33,43 +34,15 @@ pub fn put_head(
     w[1] = at as u64;
     w[2] = cell as u64;
     w[3] = layer as u64;
-    w[4] = first_of(first, count);
+    w[4] = first_of(first, count, 0) as u64;
     w[5] = count as u64;
 }
 
+#[tactic(auto, unfolding(crate::specs::ViewWords::head_word))]
 fn head_word(k: Kind, flags: u8) -> u64
     ensures { result ≡ head_word k flags }
 {
-    kind_number(k) + 0x1_0000_0000 * (flags as u64)
-}
-
-fn kind_number(k: Kind) -> u64
-    ensures value { result ≡ type_for k }
-    ensures known { result ≤ 10 }
-{
-    match k {
-        Kind::Library => 0,
-        Kind::Struct => 1,
-        Kind::Cprpty => 2,
-        Kind::Property => 3,
-        Kind::Layer => 4,
-        Kind::Box => 5,
-        Kind::Poly => 6,
-        Kind::Wire => 7,
-        Kind::Text => 8,
-        Kind::Sref => 9,
-        Kind::Endlib => 10,
-    }
-}
-
-// The first of a run, which is 0 where there is none.
-fn first_of(first: usize, count: usize) -> u64
-    ensures { result ≡ first_of first count 0 }
-{
-    if count == 0 {
-        return 0;
-    }
-    first as u64
+    k as u64 + 0x1_0000_0000 * (flags as u64)
 }
 
 // ---- a kind each: what the caller's view holds after its words stays
@@ -95,12 +68,9 @@ pub fn put_library(
 pub fn put_struct(w: &mut ViewWords, s: Struct)
     ensures { w.new ≡ put w.old 6 (date_word s.created ∷ date_word s.modified ∷ span_words s.name) }
 {
-    let created = s.created;
-    let modified = s.modified;
-    let name = s.name;
-    w[6] = date_word(created);
-    w[7] = date_word(modified);
-    put_span(w, 8, name);
+    w[6] = date_word(s.created);
+    w[7] = date_word(s.modified);
+    put_span(w, 8, s.name);
 }
 
 pub fn put_property(w: &mut ViewWords, number: i32, value: TextSpan)
@@ -113,20 +83,16 @@ pub fn put_property(w: &mut ViewWords, number: i32, value: TextSpan)
 pub fn put_layer(w: &mut ViewWords, l: Layer)
     ensures { w.new ≡ put w.old 6 (layer_words l.number.0 l.datatype.0 l.name) }
 {
-    let number = l.number;
-    let datatype = l.datatype;
-    let name = l.name;
-    let n = number.0;
-    let d = datatype.0;
-    match name {
-        Name::Absent => {
-            w[6] = layer_word(n, d);
+    let word = layer_word(l.number.0, l.datatype.0);
+    match l.name {
+        None => {
+            w[6] = word;
             w[7] = 0;
             w[8] = 0;
         }
-        Name::Present(s) => {
-            w[6] = layer_word(n, d) + 0x1_0000_0000;
-            put_span(w, 7, s);
+        Some(name) => {
+            w[6] = word + 0x1_0000_0000;
+            put_span(w, 7, name);
         }
     }
 }
@@ -141,10 +107,8 @@ fn layer_word(number: i16, datatype: i16) -> u64
 pub fn put_wire(w: &mut ViewWords, x: Wire)
     ensures { w.new ≡ put w.old 6 (long_bits x.width ∷ list_words x.points) }
 {
-    let width = x.width;
-    let points = x.points;
-    w[6] = long_word(width);
-    put_list(w, 7, points);
+    w[6] = long_word(x.width);
+    put_list(w, 7, x.points);
 }
 
 // A point is given as its word.
@@ -179,6 +143,7 @@ pub fn put_sref(
 }
 
 // ---- fields
+// A function for each type, also where two are alike: the words of a view say nothing of what they are (no plainer).
 
 fn put_span(w: &mut ViewWords, i: usize, s: TextSpan)
     requires { i + 2 ≤ 14 }
@@ -199,8 +164,7 @@ pub fn put_list(w: &mut ViewWords, i: usize, r: ItemList)
 fn date_word(d: Date) -> u64
     ensures { result ≡ date_word d }
 {
-    let year = d.year;
-    short_word(year)
+    short_word(d.year)
         + 0x1_0000 * (d.month as u64)
         + 0x100_0000 * (d.day as u64)
         + 0x1_0000_0000 * (d.hour as u64)

@@ -1,17 +1,17 @@
 -- The writers that a caller's words, calls and makers lead to come back from C as they went. Assumes nothing.
+use Rattle.std.specs.Prelude.{Some, None, Option, Ok, Err}
+use Rattle.cgx_spec.specs.Files.{header}
 use mathlib.Core.Path.{◌≡◌, refl, sym, ap, subst, ◌∙◌}
 use mathlib.Core.Bool.{Bool, true, false, cond}
 use mathlib.Core.List.{List, [], ◌∷◌, ◌++◌}
-use mathlib.Core.Option.{some}
 use Prim.Native.Nat.{ℕ, zero, suc, ◌≤◌}
 use native.Mathlib.Omega.{arith}
 use lib.ListN.{length}
 use borrow.Author.Tests.{ne_eqb, eqb-true, eqb-false}
-use lib.Dec.{eqb-suc-zero}
+use lib.Dec.{leb, eqb-suc-zero}
 use Rattle.cgx_spec.specs.declared.Kind.{Kind}
 use Rattle.cgx_spec.specs.declared.Kind.TheVariants.{Library, Struct, Cprpty, Property, Layer, Box, Poly, Wire, Text, Sref, Endlib}
 use Rattle.cgx_spec.specs.declared.Run.{Run}
-use Rattle.cgx_spec.specs.declared.Run.TheVariants.{Empty, Of}
 use Rattle.cgx_spec.specs.declared.Context.{Context}
 use Rattle.cgx_spec.specs.Order.{longer, next}
 use Rattle.cgx_spec.specs.Records.{bytes_of}
@@ -23,17 +23,17 @@ use Rattle.cgx_c_places.proofs.Places.{cursor-read, cursor-back}
 use Rattle.buffers.specs.Put.{put}
 use Rattle.cgx_write_given.specs.declared.Writer.{Writer}
 use Rattle.cgx_write_given.specs.Given.{Given, written}
-use Rattle.cgx_write_given.specs.Writing.{offset_of, context_of, first_writer, writer_after, Outcome, is_taken, call_in, start_in, History, if_taken, calls, from_start}
+use Rattle.cgx_write_given.specs.Writing.{offset_of, context_of, first_writer, writer_after, writer_or, Answer, Outcome, is_taken, call_in, start_in, History, if_taken, calls, from_start}
 use Rattle.cgx_write_given.specs.Typed.{AllWell}
 use Rattle.cgx_write_given.specs.Demands.{ReadBack}
 use Rattle.cgx_write_given.proofs.Promises.{writer-promises}
 use Rattle.cgx_write_given.proofs.Calls.{by-outcome}
 use Rattle.cgx_write_given.proofs.Unforged.{after_is}
-use Rattle.cgx_write_makers.specs.Makers.{in_turn, handed_back, all_in}
+use Rattle.cgx_write_makers.specs.Makers.{in_turn, all_in}
 use Rattle.cgx_write_makers.proofs.Demand.{makers-demand}
-use Rattle.cgx_c_writer.specs.Lent.{writer_in, words_after, start_words, Held, held_at_start, outcome_from, held_after, held_after_all, taken_from, EachWell}
+use Rattle.cgx_c_writer.specs.Lent.{writer_in, words_after, Held, held_at_start, outcome_from, held_after, held_after_all, taken_from, EachWell}
 use Rattle.cgx_c_writer.specs.Demand.{LentWriterDemand}
-use Rattle.cgx_c_writer.proofs.Lent.{refused, started, not-started, untold}
+use Rattle.cgx_c_writer.proofs.Lent.{refused, untold}
 
 -- ---- the cursor of a place: a run of none has no first
 
@@ -57,11 +57,11 @@ placed c h =
 
 -- ---- the writer after a record
 
-longer-kept : (r : Run) (at : ℕ) → run_count (longer r at) ≡ 0 → run_first (longer r at) ≡ 0
-longer-kept Empty at e = absurd (omega arith)
-longer-kept (Of first n) at e = absurd (omega arith)
+longer-kept : (r : Option Run) (at : ℕ) → run_count (longer r at) ≡ 0 → run_first (longer r at) ≡ 0
+longer-kept None at e = absurd (omega arith)
+longer-kept (Some r) at e = absurd (omega arith)
 
-state-kept : (c : Context) (at : ℕ) (k : Kind) → let s = state_of (next c at (some k)) in s.count ≡ 0 → s.first ≡ 0
+state-kept : (c : Context) (at : ℕ) (k : Kind) → let s = state_of (next c at (Some k)) in s.count ≡ 0 → s.first ≡ 0
 unfolding state_of
 state-kept c at Library e = refl
 state-kept c at Struct e = refl
@@ -80,36 +80,37 @@ after-placed w g = subst (λ (v : Writer). Placed v.cursor) (sym (after_is w g))
 
 -- ---- calls
 
-turns-placed : (gs : List Given) (buf : List ℕ) (w : Writer) → Placed w.cursor → Placed (in_turn buf w gs).answer.writer.cursor
+-- the writer to go on with is placed, whichever of two placed ones a refusal leaves
+or-placed : (v w : Writer) (a : Answer) → Placed (writer_or v a).cursor → Placed w.cursor → Placed (writer_or w a).cursor
+or-placed v w (Ok x) h k = h
+or-placed v w (Err r) h k = k
+
+turns-placed : (gs : List Given) (buf : List ℕ) (w : Writer) → Placed w.cursor → Placed (writer_or w (in_turn buf w gs).answer).cursor
 unfolding in_turn
 turns-placed [] buf w h = h
 turns-placed (g ∷ gs) buf w h =
-    by-outcome (λ o. Placed (cond (is_taken o.answer) (in_turn o.buffer o.answer.writer gs) o).answer.writer.cursor) buf w g
-    (λ e. turns-placed gs (put buf (offset_of w) (bytes_of (written g))) (writer_after w g) (after-placed w g))
-    (λ m e z. rw (ne_eqb m 0 z) h)
+    by-outcome (λ o. Placed (writer_or w (cond (is_taken o.answer) (in_turn o.buffer (writer_or w o.answer) gs) o).answer).cursor) buf w g
+    (λ e. let v = writer_after w g in let b = put buf (offset_of w) (bytes_of (written g)) in or-placed v w (in_turn b v gs).answer (turns-placed gs b v (after-placed w g)) h)
+    (λ m e. h)
 
 -- ---- what is left says what was answered
 
 back : (w : Writer) → Placed w.cursor → writer_in (cursor_words w.cursor) ≡ w
 back w h = ap (λ (c : Cursor). record { cursor = c }) (cursor-back w.cursor h)
 
-call-left : (buf w : List ℕ) (g : Given) → let a = (call_in buf (writer_in w) g).answer in writer_in (words_after w a) ≡ a.writer
-unfolding words_after
+call-left : (buf w : List ℕ) (g : Given) → let a = (call_in buf (writer_in w) g).answer in writer_in (words_after w a) ≡ writer_or (writer_in w) a
 call-left buf w g =
-    by-outcome (λ o. writer_in (cond (is_taken o.answer) (cursor_words o.answer.writer.cursor) w) ≡ o.answer.writer) buf (writer_in w) g
+    by-outcome (λ o. writer_in (words_after w o.answer) ≡ writer_or (writer_in w) o.answer) buf (writer_in w) g
     (λ e. back (writer_after (writer_in w) g) (after-placed (writer_in w) g))
-    (λ m e z. rw (ne_eqb m 0 z) refl)
+    (λ m e. refl)
 
-maker-left : (buf w : List ℕ) (gs : List Given) → let a = (all_in buf (writer_in w) gs).answer in writer_in (words_after w a) ≡ a.writer
-unfolding all_in words_after
-maker-left buf w gs =
-    let o = in_turn buf (writer_in w) gs in
-    one (is_taken o.answer) (turns-placed gs buf (writer_in w) (cursor-read w))
+maker-left : (buf w : List ℕ) (gs : List Given) → let a = (all_in buf (writer_in w) gs).answer in writer_in (words_after w a) ≡ writer_or (writer_in w) a
+unfolding all_in
+maker-left buf w gs = one (in_turn buf (writer_in w) gs).answer (turns-placed gs buf (writer_in w) (cursor-read w))
   where
-    one : (b : Bool) → Placed (in_turn buf (writer_in w) gs).answer.writer.cursor
-        → let v = cond b (in_turn buf (writer_in w) gs).answer.writer (writer_in w) in writer_in (cond b (cursor_words v.cursor) w) ≡ v
-    one true h = back (in_turn buf (writer_in w) gs).answer.writer h
-    one false h = refl
+    one : (a : Answer) → Placed (writer_or (writer_in w) a).cursor → writer_in (words_after w a) ≡ writer_or (writer_in w) a
+    one (Ok v) h = back v h
+    one (Err r) h = refl
 
 -- ---- the start
 
@@ -117,8 +118,19 @@ first-placed : Placed first_writer.cursor
 unfolding first_writer
 first-placed = ap cursor_of (sym first-in)
 
-start_left : (w : List ℕ) (n : ℕ) → n ≡ 0 → writer_in (start_words w n) ≡ first_writer
-start_left w n e = ap writer_in (started w n e) ∙ back first_writer first-placed
+start_left : (w : List ℕ) (a : Answer) → a ≡ Ok first_writer → writer_in (words_after w a) ≡ first_writer
+start_left w a e = ap (λ (x : Answer). writer_in (words_after w x)) e ∙ back first_writer first-placed
+
+abbrev either-start : List ℕ → Bool → Outcome
+either-start buf b = cond b (record { answer = Ok first_writer; buffer = put buf 0 header }) (record { answer = Err (record { number = 14; at = None }); buffer = buf })
+
+start_taken : (buf : List ℕ) → is_taken (start_in buf).answer ≡ true → (start_in buf).answer ≡ Ok first_writer
+unfolding start_in
+start_taken buf e = go (leb 4 (length buf)) e
+  where
+    go : (b : Bool) → is_taken (either-start buf b).answer ≡ true → (either-start buf b).answer ≡ Ok first_writer
+    go true z = refl
+    go false z = absurd (let x : ◌≡◌ {A = ℕ} 0 1 = cc in omega arith)
 
 -- ---- calls and makers in a row
 
@@ -126,11 +138,11 @@ single : (buf : List ℕ) (w : Writer) (g : Given) → all_in buf w (g ∷ []) �
 unfolding all_in in_turn
 single buf w g =
     by-outcome
-    (λ o. let t = cond (is_taken o.answer) (in_turn o.buffer o.answer.writer []) o in
-    ◌≡◌ {A = Outcome} (record { answer = handed_back w t.answer; buffer = cond (is_taken t.answer) t.buffer buf }) o)
+    (λ o. let t = cond (is_taken o.answer) (in_turn o.buffer (writer_or w o.answer) []) o in
+    ◌≡◌ {A = Outcome} (record { answer = t.answer; buffer = cond (is_taken t.answer) t.buffer buf }) o)
     buf w g
     (λ e. refl)
-    (λ m e z. simp (ne_eqb m 0 z))
+    (λ m e. refl)
 
 if-taken-more : (b : Bool) (g : Given) (xs gs : List Given) → cond b (g ∷ (xs ++ gs)) (xs ++ gs) ≡ cond b (g ∷ xs) xs ++ gs
 if-taken-more true g xs gs = refl
@@ -141,9 +153,9 @@ unfolding calls
 calls-append [] gs buf w = refl
 calls-append (f ∷ fs) gs buf w =
     let o = call_in buf w f in
-    let h = calls o.buffer o.answer.writer fs in
+    let h = calls o.buffer (writer_or w o.answer) fs in
     let k = calls h.buffer h.writer gs in
-    ap (λ (x : History). record { taken = if_taken o.answer f x.taken; writer = x.writer; buffer = x.buffer }) (calls-append fs gs o.buffer o.answer.writer)
+    ap (λ (x : History). record { taken = if_taken o.answer f x.taken; writer = x.writer; buffer = x.buffer }) (calls-append fs gs o.buffer (writer_or w o.answer))
     ∙ ap (λ (x : List Given). record { taken = x; writer = k.writer; buffer = k.buffer }) (if-taken-more (is_taken o.answer) f h.taken k.taken)
 
 abbrev InTurn : Held → List (List Given) → Type 0
@@ -151,18 +163,18 @@ InTurn m gss = let n = held_after_all m gss in let gs = taken_from m gss in call
 
 -- one more in front: o is its outcome, and k what those after it come to
 module _ (buf : List ℕ) (w : Writer) (gs xs : List Given) (k : History) where
-  more : (b : Bool) → is_taken (all_in buf w gs).answer ≡ b → let o = all_in buf w gs in calls o.buffer o.answer.writer xs ≡ k
+  more : (b : Bool) → is_taken (all_in buf w gs).answer ≡ b → let o = all_in buf w gs in calls o.buffer (writer_or w o.answer) xs ≡ k
       → calls buf w (cond b gs [] ++ xs) ≡ record { taken = cond b gs [] ++ k.taken; writer = k.writer; buffer = k.buffer }
   unfolding calls
   more true t e =
       let o = all_in buf w gs in
-      let q = makers-demand.all buf w [] gs (eqb-true o.answer.number 0 t) in
+      let q = makers-demand.all buf w [] gs t in
       calls-append gs xs buf w
       ∙ ap (λ (h : History). record { taken = h.taken ++ (calls h.buffer h.writer xs).taken; writer = (calls h.buffer h.writer xs).writer; buffer = (calls h.buffer h.writer xs).buffer }) q
       ∙ ap (λ (h : History). record { taken = gs ++ h.taken; writer = h.writer; buffer = h.buffer }) e
   more false t e =
       let o = all_in buf w gs in
-      let q = makers-demand.nothing buf w gs (eqb-false o.answer.number 0 t) in
+      let q = makers-demand.nothing buf w gs t in
       (λ i. calls (sym q.0 i) (sym q.1 i) xs) ∙ e
 
 in-turn : (gss : List (List Given)) (m : Held) → InTurn m gss
@@ -207,13 +219,13 @@ read_back m gss e t z =
 pub lent-writer-demand : LentWriterDemand
 lent-writer-demand =
     record {
-      start = λ buf w e. start_left w (start_in buf).answer e;
+      start = λ buf w e. start_left w (start_in buf).answer (start_taken buf e);
       call = λ buf w at g. call-left buf w g;
       maker = λ buf w at gs. maker-left buf w gs;
       single = single;
       in-turn = λ m gss. in-turn gss m;
       read_back = read_back;
       refusal = λ w at o z. refused w o.answer z;
-      start-refusal = λ buf w z. not-started w (start_in buf).answer z;
-      unnamed = λ w at o e. untold at o.answer.at e;
+      start-refusal = λ buf w z. refused w (start_in buf).answer z;
+      unnamed = λ w at o e. untold at o.answer e;
     }

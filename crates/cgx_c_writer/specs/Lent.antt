@@ -1,21 +1,35 @@
 -- What a call of the writer leaves in a C caller's memory: the words of its writer, the number `at`, and the buffer. Definitions only.
-use Rattle.std.specs.Prelude.{cond, List, [], ◌∷◌, ◌++◌, ℕ, eqb}
-use Rattle.cgx_format_cursor.specs.Cursors.{offset_in}
+use Rattle.std.specs.Prelude.{cond, List, [], ◌∷◌, ◌++◌, ℕ, Option, None, Ok, Err}
 use Rattle.cgx_c_places.specs.Words.{cursor_words, cursor_in, told_at}
 use Rattle.cgx_write_given.specs.declared.Writer.{Writer}
-use Rattle.cgx_write_given.specs.declared.Answer.{Answer}
 use Rattle.cgx_write_given.specs.Given.{Given}
 use Rattle.cgx_write_given.specs.Typed.{AllWell}
-use Rattle.cgx_write_given.specs.Writing.{first_writer, Outcome, is_taken, Begun, start_in}
+use Rattle.cgx_write_given.specs.Writing.{Answer, Outcome, is_taken, start_in}
 use Rattle.cgx_write_makers.specs.Makers.{all_in}
 
 -- The writer that a caller's words say.
 abbrev pub writer_in : List ℕ → Writer
 writer_in w = record { cursor = cursor_in w }
 
+-- The answer's number, 0 where the call is taken.
+abbrev pub number_told : Answer → ℕ
+number_told (Ok v) = 0
+number_told (Err r) = r.number
+
 -- The words of the writer, where w are those before: a refusal "hands back its old place", every bit of it.
-unfoldable pub words_after : List ℕ → Answer → List ℕ
-words_after w a = cond (is_taken a) (cursor_words a.writer.cursor) w
+abbrev pub words_after : List ℕ → Answer → List ℕ
+words_after w (Ok v) = cursor_words v.cursor
+words_after w (Err r) = w
+
+-- The number for an offset: only a refusal that names one changes it.
+abbrev pub offset_told : Answer → ℕ → ℕ
+offset_told (Ok v) at = at
+offset_told (Err r) at = told_at r.at at
+
+-- The place that it names, if any.
+abbrev pub place_named : Answer → Option ℕ
+place_named (Ok v) = None
+place_named (Err r) = r.at
 
 -- What a call returns, and what it leaves in the memory that it was lent.
 pub record Lent : Type 0 where
@@ -26,21 +40,17 @@ pub record Lent : Type 0 where
 
 -- Of a call with this outcome, where the writer's words and `at` were these.
 abbrev pub lent : List ℕ → ℕ → Outcome → Lent
-lent w at o = record { number = o.answer.number; writer = words_after w o.answer; at = told_at (offset_in o.answer.at) at; buffer = o.buffer }
+lent w at o = record { number = number_told o.answer; writer = words_after w o.answer; at = offset_told o.answer at; buffer = o.buffer }
 
 -- ---- the start, which names no offset
-
--- Of the number that a start answers.
-unfoldable pub start_words : List ℕ → ℕ → List ℕ
-start_words w n = cond (eqb n 0) (cursor_words first_writer.cursor) w
 
 pub record LentStart : Type 0 where
   pub number : ℕ
   pub writer : List ℕ
   pub buffer : List ℕ
 
-abbrev pub lent_start : List ℕ → Begun → LentStart
-lent_start w b = record { number = b.answer; writer = start_words w b.answer; buffer = b.buffer }
+abbrev pub lent_start : List ℕ → Outcome → LentStart
+lent_start w o = record { number = number_told o.answer; writer = words_after w o.answer; buffer = o.buffer }
 
 -- ---- calls and makers one after another, each with what the one before it left; a call gives one record, a maker several
 

@@ -5,7 +5,7 @@ use Rattle.cgx_format_kinds.specs.declared.Date.{Date}
 use Rattle.cgx_format_kinds.specs.declared.LayerNo.{LayerNo}
 use Rattle.cgx_format_kinds.specs.declared.DataType.{DataType}
 use Rattle.cgx_format_kinds.specs.declared.Point.{Point}
-use Rattle.cgx_write_given.specs.declared.Grid.{Grid}
+use Rattle.cgx_format_kinds.specs.declared.Grid.{Grid}
 use Rattle.cgx_write_given.specs.Given.{Given, given_sref}
 use Rattle.cgx_write_makers.specs.Makers.{card_calls, frame_calls}
 use Rattle.cgx_c_writer.specs.declared.Placement.{Placement}

@@ -3,14 +3,13 @@
 #![tactic(auto)]
 
 ghost use Rattle.std.specs.Prelude.{◌≡◌};
-ghost use Rattle.cgx_format_cursor.specs.Cursors.{offset_in};
-ghost use Rattle.cgx_c_places.specs.Words.{told_at};
-ghost use Rattle.cgx_c_writer.specs.Lent.{writer_in, words_after, start_words};
+ghost use Rattle.cgx_c_writer.specs.Lent.{writer_in, number_told, words_after, offset_told};
 ghost use Rattle.cgx_c_writer.specs.Parts.{date_in, real_in, low_long, high_long, point_in, grid_in, placement_in, layer_no_in, data_type_in};
 
-use cgx_c_places::{PlaceWords, cursor_of, put_cursor};
-use cgx_format_kinds::{DataType, Date, LayerNo, Point};
-use cgx_write_given::{Answer, Grid, Writer};
+use cgx_c_places::{PlaceWords, cursor_of, put_cursor, put_offset};
+use cgx_format_kinds::{DataType, Date, Grid, LayerNo, Point};
+use cgx_spec::Refusal;
+use cgx_write_given::Writer;
 use numbers::{WordBytes, short_of, signed_long, word_bytes};
 
 // ---- the writer
@@ -23,41 +22,31 @@ pub fn writer_of(w: &PlaceWords) -> Writer
     }
 }
 
-// Leaves what a call answers in the lent memory. A refusal changes no word of the writer.
-pub fn settle(answer: Answer, w: &mut PlaceWords, at: &mut u64) -> u32
-    ensures { (result ≡ answer.number) × (w.new ≡ words_after w.old answer) × (at.new ≡ told_at (offset_in answer.at) at.old) }
+// Leaves what a call answers in the lent memory. A refusal changes no word of the writer; where it names no offset, the caller's number stays.
+pub fn settle(answer: Result<Writer, Refusal>, w: &mut PlaceWords, at: &mut u64) -> u32
+    ensures { (result ≡ number_told answer) × (w.new ≡ words_after w.old answer) × (at.new ≡ offset_told answer at.old) }
 {
-    tell(answer.at, at);
-    if answer.number != 0 {
-        return answer.number as u32;
+    if let Err(r) = answer {
+        put_offset(at, r.at);
     }
-    let writer = answer.writer;
-    put_cursor(w, writer.cursor);
-    0
+    settle_start(answer, w)
 }
 
-// The offset that a refusal names: where it is 0, which is none, the caller's number stays.
-fn tell(offset: usize, at: &mut u64)
-    ensures { at.new ≡ told_at (offset_in offset) at.old }
+// The number and the writer's words: all that is left of what a start answers, which names no offset.
+pub fn settle_start(answer: Result<Writer, Refusal>, w: &mut PlaceWords) -> u32
+    ensures { (result ≡ number_told answer) × (w.new ≡ words_after w.old answer) }
 {
-    if offset != 0 {
-        *at = offset as u64;
+    match answer {
+        Ok(writer) => {
+            put_cursor(w, writer.cursor);
+            0
+        }
+        Err(r) => r.number as u32,
     }
-}
-
-// The same of the number that a start answers.
-pub fn settle_start(number: u8, w: &mut PlaceWords) -> u32
-    ensures { (result ≡ number) × (w.new ≡ start_words w.old number) }
-{
-    if number == 0 {
-        let first = Writer::start();
-        put_cursor(w, first.cursor);
-        return 0;
-    }
-    number as u32
 }
 
 // ---- what a call is given
+// Functions and no `From`: words and what they say are types of other crates, all but `Placement`, which is read as the others are.
 
 // The year's low byte comes first, and the last byte is not looked at.
 pub fn date_of(d: &[u8; 8]) -> Date
@@ -147,6 +136,7 @@ fn point_of(w: u64) -> Point
     }
 }
 
+// A function for each half: one that is given the half would be no plainer.
 fn low_long(w: u64) -> i32
     ensures { result ≡ low_long w }
 {

@@ -1,4 +1,5 @@
 -- The laws of an SREF's body: eight cases of its flags. Assumes nothing.
+use Rattle.std.specs.Prelude.{Option, Some}
 use mathlib.Core.Path.{◌≡◌, refl, sym, ap, ap₂, ◌∙◌, subst}
 use mathlib.Core.Bool.{Bool, true, false, not, ◌&&◌, ◌||◌}
 use mathlib.Core.List.{List, [], ◌∷◌}
@@ -16,7 +17,7 @@ use Rattle.cgx_spec.specs.Records.{rule, broken}
 use Rattle.cgx_spec.specs.declared.Kind.TheVariants.{Sref}
 use Rattle.cgx_format_sref.specs.declared.SrefLayout.{SrefLayout}
 use Rattle.cgx_format_sref.specs.Layouts.{magnif_offset, array_offset, name_offset, sref_layout}
-use Rattle.cgx_format_bodies.specs.Bodies.{number_or0, body_fault, Body}
+use Rattle.cgx_format_bodies.specs.Bodies.{body_fault, Body}
 use Rattle.cgx_spec.proofs.Cuts.{cut_at, Room, sane}
 use Rattle.cgx_format_bodies.proofs.Faults.{fault-8, fault-on, alone, pair}
 
@@ -128,12 +129,12 @@ module _ (fl : ℕ) (b : List ℕ) (y : Body b) {l : SrefLayout} (is : l ≡ sre
   abbrev g : Bool
   g = array fl
 
-  pub sref-8 : length b < l.name - 4 + 2 → 8 ≡ body_fault Sref fl b
+  pub sref-8 : length b < l.name - 4 + 2 → Some 8 ≡ body_fault Sref fl b
   unfolding layout
   sref-8 h = fault-8 Sref fl b (all-sane a m g) (no_room b y a m g (subst (λ (x : SrefLayout). length b < x.name - 4 + 2) is h))
 
-  pub sref-on : l.name - 4 + 2 ≤ length b → {s1 s2 s3 : Bool} {r : ℕ}
-      → r ≡ number_or0 (broken (rule 9 true ∷ rule 10 (s1 && s2) ∷ rule 11 s3 ∷ rule 12 true ∷ []))
+  pub sref-on : l.name - 4 + 2 ≤ length b → {s1 s2 s3 : Bool} {r : Option ℕ}
+      → r ≡ broken (rule 9 true ∷ rule 10 (s1 && s2) ∷ rule 11 s3 ∷ rule 12 true ∷ [])
       → s1 ≡ (not l.scaled || positive_real ((take 8 (drop (l.magnif - 4) b))))
       → s2 ≡ (not l.repeated || (ones (longs_of (take 4 (drop (l.array - 4) b))) && ones (longs_of (take 4 (drop (l.array - 4 + 4) b)))))
       → s3 ≡ good_string (take (length b - (l.name - 4)) (drop (l.name - 4) b)) → r ≡ body_fault Sref fl b

@@ -1,4 +1,5 @@
-// The rules 8 to 12 of a record's body, a function a kind. Each answers the number of the first rule that is broken, or 0.
+// The rules 8 to 12 of a record's body, a function a kind, also where two kinds are alike: each promises its own kind's rules (no plainer).
+// Each answers the first that is broken, if any.
 #![tactic(auto)]
 
 ghost use Rattle.std.specs.Prelude.{◌≡◌, true, not, ◌&&◌, ◌||◌, [], ◌∷◌, ◌+◌, ◌≤◌, length, take, drop};
@@ -7,7 +8,8 @@ ghost use Rattle.cgx_spec.specs.Numbers.{longs_of};
 ghost use Rattle.cgx_spec.specs.Reals.{positive_real};
 ghost use Rattle.cgx_spec.specs.Fields.{ones};
 ghost use Rattle.cgx_spec.specs.Records.{rule, broken};
-ghost use Rattle.cgx_format_bodies.specs.Bodies.{number_or0, body_fault, Body};
+ghost use Rattle.cgx_spec.specs.Verdicts.{numbered};
+ghost use Rattle.cgx_format_bodies.specs.Bodies.{body_fault, Body};
 
 use cgx_format_fields::{
     boxes_good, closed_good, count_good, date_good, optional_good, string_good,
@@ -16,17 +18,17 @@ use cgx_format_kinds::{
     Boxes, Cprpty, Endlib, Layer, Library, Poly, Property, Sref, Struct, Text, Wire,
 };
 use cgx_format_sref::sref_layout;
-use cgx_spec::Kind;
+use cgx_spec::{Fault, Kind};
 use reals::positive_bytes;
 
 // ---- the eleven kinds
 
-pub fn library_fault(b: &[u8], fl: u8) -> u8
+pub fn library_fault(b: &[u8], fl: u8) -> Result<(), Fault>
     requires { Body b.now }
-    ensures { result ≡ body_fault KLibrary fl b.now }
+    ensures { numbered result ≡ body_fault KLibrary fl b.now }
 {
     if b.len() + Kind::HEADER_SIZE < Library::MIN_SIZE {
-        return 8;
+        return Err(Fault::Length);
     }
     let munit = positive_bytes(&b[0..8]);
     let uunit = positive_bytes(&b[8..16]);
@@ -36,12 +38,12 @@ pub fn library_fault(b: &[u8], fl: u8) -> u8
     first_broken(created & modified, munit & uunit, name, true)
 }
 
-pub fn struct_fault(b: &[u8], fl: u8) -> u8
+pub fn struct_fault(b: &[u8], fl: u8) -> Result<(), Fault>
     requires { Body b.now }
-    ensures { result ≡ body_fault KStruct fl b.now }
+    ensures { numbered result ≡ body_fault KStruct fl b.now }
 {
     if b.len() + Kind::HEADER_SIZE < Struct::MIN_SIZE {
-        return 8;
+        return Err(Fault::Length);
     }
     let created = date_good(&b[0..8]);
     let modified = date_good(&b[8..16]);
@@ -49,120 +51,120 @@ pub fn struct_fault(b: &[u8], fl: u8) -> u8
     first_broken(created & modified, true, name, true)
 }
 
-pub fn cprpty_fault(b: &[u8], fl: u8) -> u8
+pub fn cprpty_fault(b: &[u8], fl: u8) -> Result<(), Fault>
     requires { Body b.now }
-    ensures { result ≡ body_fault KCprpty fl b.now }
+    ensures { numbered result ≡ body_fault KCprpty fl b.now }
 {
     if b.len() + Kind::HEADER_SIZE < Cprpty::MIN_SIZE {
-        return 8;
+        return Err(Fault::Length);
     }
     let value = string_good(&b[4..]);
     first_broken(true, true, value, true)
 }
 
-pub fn property_fault(b: &[u8], fl: u8) -> u8
+pub fn property_fault(b: &[u8], fl: u8) -> Result<(), Fault>
     requires { Body b.now }
-    ensures { result ≡ body_fault KProperty fl b.now }
+    ensures { numbered result ≡ body_fault KProperty fl b.now }
 {
     if b.len() + Kind::HEADER_SIZE < Property::MIN_SIZE {
-        return 8;
+        return Err(Fault::Length);
     }
     let value = string_good(&b[4..]);
     first_broken(true, true, value, true)
 }
 
-pub fn layer_fault(b: &[u8], fl: u8) -> u8
+pub fn layer_fault(b: &[u8], fl: u8) -> Result<(), Fault>
     requires { Body b.now }
-    ensures { result ≡ body_fault KLayer fl b.now }
+    ensures { numbered result ≡ body_fault KLayer fl b.now }
 {
     if b.len() + Kind::HEADER_SIZE < Layer::MIN_SIZE {
-        return 8;
+        return Err(Fault::Length);
     }
     let name = optional_good(&b[4..]);
     first_broken(true, true, name, true)
 }
 
-pub fn box_fault(b: &[u8], fl: u8) -> u8
+pub fn box_fault(b: &[u8], fl: u8) -> Result<(), Fault>
     requires { Body b.now }
-    ensures { result ≡ body_fault KBox fl b.now }
+    ensures { numbered result ≡ body_fault KBox fl b.now }
 {
     let n = b.len();
     if n % Boxes::BOX_SIZE != 0 {
-        return 8;
+        return Err(Fault::Length);
     }
     let count = n / Boxes::BOX_SIZE;
     if count < Boxes::MIN_COUNT {
-        return 8;
+        return Err(Fault::Length);
     }
     if Boxes::MAX_COUNT < count {
-        return 8;
+        return Err(Fault::Length);
     }
     let boxes = boxes_good(b);
     first_broken(true, boxes, true, true)
 }
 
-pub fn poly_fault(b: &[u8], fl: u8) -> u8
+pub fn poly_fault(b: &[u8], fl: u8) -> Result<(), Fault>
     requires { Body b.now }
-    ensures { result ≡ body_fault KPoly fl b.now }
+    ensures { numbered result ≡ body_fault KPoly fl b.now }
 {
     let n = b.len();
     if n % Poly::PAIR_SIZE != 0 {
-        return 8;
+        return Err(Fault::Length);
     }
     let count = n / Poly::PAIR_SIZE;
     if count < Poly::MIN_COUNT {
-        return 8;
+        return Err(Fault::Length);
     }
     if Poly::MAX_COUNT < count {
-        return 8;
+        return Err(Fault::Length);
     }
     let end = closed_good(b);
     first_broken(true, true, true, end)
 }
 
-pub fn wire_fault(b: &[u8], fl: u8) -> u8
+pub fn wire_fault(b: &[u8], fl: u8) -> Result<(), Fault>
     requires { Body b.now }
-    ensures { result ≡ body_fault KWire fl b.now }
+    ensures { numbered result ≡ body_fault KWire fl b.now }
 {
     // The width comes before the pairs.
     if b.len() < Wire::WIDTH_SIZE {
-        return 8;
+        return Err(Fault::Length);
     }
     let n = b.len() - Wire::WIDTH_SIZE;
     if n % Wire::PAIR_SIZE != 0 {
-        return 8;
+        return Err(Fault::Length);
     }
     let count = n / Wire::PAIR_SIZE;
     if count < Wire::MIN_COUNT {
-        return 8;
+        return Err(Fault::Length);
     }
     if Wire::MAX_COUNT < count {
-        return 8;
+        return Err(Fault::Length);
     }
-    0
+    Ok(())
 }
 
-pub fn text_fault(b: &[u8], fl: u8) -> u8
+pub fn text_fault(b: &[u8], fl: u8) -> Result<(), Fault>
     requires { Body b.now }
-    ensures { result ≡ body_fault KText fl b.now }
+    ensures { numbered result ≡ body_fault KText fl b.now }
 {
     if b.len() + Kind::HEADER_SIZE < Text::MIN_SIZE {
-        return 8;
+        return Err(Fault::Length);
     }
     let label = string_good(&b[12..]);
     first_broken(true, true, label, true)
 }
 
-pub fn sref_fault(b: &[u8], fl: u8) -> u8
+pub fn sref_fault(b: &[u8], fl: u8) -> Result<(), Fault>
     requires { Body b.now }
-    ensures { result ≡ body_fault KSref fl b.now }
+    ensures { numbered result ≡ body_fault KSref fl b.now }
 {
     let l = sref_layout(fl);
     let magnif_at = l.magnif - Kind::HEADER_SIZE;
     let grid_at = l.array - Kind::HEADER_SIZE;
     let name_at = l.name - Kind::HEADER_SIZE;
     if b.len() < name_at + Sref::MIN_NAME {
-        return 8;
+        return Err(Fault::Length);
     }
     let scale = magnif_good(b, magnif_at, l.scaled);
     let grid = grid_good(b, grid_at, l.repeated);
@@ -170,38 +172,39 @@ pub fn sref_fault(b: &[u8], fl: u8) -> u8
     first_broken(true, scale & grid, name, true)
 }
 
-pub fn endlib_fault(b: &[u8], fl: u8) -> u8
+pub fn endlib_fault(b: &[u8], fl: u8) -> Result<(), Fault>
     requires { Body b.now }
-    ensures { result ≡ body_fault KEndlib fl b.now }
+    ensures { numbered result ≡ body_fault KEndlib fl b.now }
 {
     if b.len() + Kind::HEADER_SIZE == Endlib::SIZE {
-        0
+        Ok(())
     } else {
-        8
+        Err(Fault::Length)
     }
 }
 
 // ---- what they share
 
-// The first of the rules 9 to 12 that is broken, or 0.
-fn first_broken(dates: bool, numbers: bool, texts: bool, polygon: bool) -> u8
-    ensures { result ≡ number_or0 (broken (rule 9 dates ∷ rule 10 numbers ∷ rule 11 texts ∷ rule 12 polygon ∷ [])) }
+// The first of the rules 9 to 12 that is broken, if any.
+fn first_broken(dates: bool, numbers: bool, texts: bool, polygon: bool) -> Result<(), Fault>
+    ensures { numbered result ≡ broken (rule 9 dates ∷ rule 10 numbers ∷ rule 11 texts ∷ rule 12 polygon ∷ []) }
 {
     if !dates {
-        return 9;
+        return Err(Fault::Date);
     }
     if !numbers {
-        return 10;
+        return Err(Fault::Number);
     }
     if !texts {
-        return 11;
+        return Err(Fault::String);
     }
     if !polygon {
-        return 12;
+        return Err(Fault::NotClosed);
     }
-    0
+    Ok(())
 }
 
+// `there` says, here and below, whether the body has the bytes from `at` on: an `Option` of the offset would be made only to be taken apart.
 fn magnif_good(b: &[u8], at: usize, there: bool) -> bool
     requires { there ≡ true → at + 8 ≤ length b.now }
     ensures { result ≡ (not there || positive_real (take 8 (drop at b.now))) }

@@ -1,19 +1,16 @@
 -- Offsets and runs as numbers, where 0 is none. Assumes nothing.
+use Rattle.std.specs.Prelude.{None, Option, Some}
 use mathlib.Core.Path.{◌≡◌, refl, sym, ap, ap₂, ◌∙◌}
 use mathlib.Core.Bool.{Bool, true, false, not, ◌&&◌}
-use mathlib.Core.Option.{none, some}
 use Prim.Native.Nat.{ℕ, zero, suc, ◌+◌, ◌<◌}
 use lib.Dec.{eqb, leb, leb-zero, eqb-suc-zero}
 use Rattle.cgx_spec.specs.Order.{start, present, awaiting, longer, allowed, next}
 use Rattle.cgx_spec.specs.Walking.{first_place, offset_up_to, run_up_to}
 use Rattle.cgx_spec.specs.declared.Kind.{Kind}
 use Rattle.cgx_spec.specs.declared.Kind.TheVariants.{Library, Struct, Cprpty, Property, Layer, Box, Poly, Wire, Text, Sref, Endlib}
-use Rattle.cgx_spec.specs.declared.Offset.{Offset}
-use Rattle.cgx_spec.specs.declared.Offset.TheVariants.{Nowhere, At}
 use Rattle.cgx_spec.specs.declared.Run.{Run}
 use Rattle.cgx_spec.specs.declared.Context.{Context}
 use Rattle.cgx_spec.proofs.Lists.{and-true, and_assoc}
-use Rattle.cgx_spec.specs.declared.Run.TheVariants.{Empty, Of}
 use native.Mathlib.Omega.{arith}
 use Rattle.cgx_format_cursor.specs.declared.State.{State}
 use Rattle.cgx_format_cursor.specs.Cursors.{offset_in, run_in, context_in, place_in, offset_number, run_first, run_count, state_of, cursor_of, needs_met, none_awaiting, first_of, state_after}
@@ -55,17 +52,17 @@ awaits-in first (suc n) = rw (eqb-suc-zero n) refl
 
 -- ---- from numbers and back
 
-pub at_in : (n : ℕ) → 0 < n → offset_in n ≡ At n
+pub at_in : (n : ℕ) → 0 < n → offset_in n ≡ Some n
 unfolding offset_in
 at_in zero h = let z : ⊥ = omega (arith, h) in elim z [ ]
 at_in (suc n) h = rw (eqb-suc-zero n) refl
 
-pub run_in_lem : (first n : ℕ) → 0 < n → run_in first n ≡ Of first n
+pub run_in_lem : (first n : ℕ) → 0 < n → run_in first n ≡ Some (record { first = first; count = n })
 unfolding run_in
 run_in_lem first zero h = let z : ⊥ = omega (arith, h) in elim z [ ]
 run_in_lem first (suc n) h = rw (eqb-suc-zero n) refl
 
-none_in : offset_in 0 ≡ Nowhere
+none_in : offset_in 0 ≡ None
 unfolding offset_in
 none_in = refl
 
@@ -80,6 +77,17 @@ pub first-kept : (first count at : ℕ) → (count ≡ 0 → ⊥) → first ≡ 
 unfolding first_of
 first-kept first zero at h = elim (h refl) [ ]
 first-kept first (suc n) at h = rw (eqb-suc-zero n) refl
+
+-- the numbers of a run say that run
+pub run-first : (first n : ℕ) → first_of first n 0 ≡ run_first (run_in first n)
+unfolding run_in first_of
+run-first first zero = refl
+run-first first (suc n) = rw (eqb-suc-zero n) refl
+
+pub run-count : (first n : ℕ) → n ≡ run_count (run_in first n)
+unfolding run_in
+run-count first zero = refl
+run-count first (suc n) = rw (eqb-suc-zero n) refl
 
 more-first : (first count at : ℕ) → first_of first count at ≡ run_first (longer (run_in first count) at)
 unfolding run_in first_of
@@ -98,7 +106,7 @@ longer-back first (suc n) at = rw (eqb-suc-zero n) (run_in_lem first (suc n + 1)
 
 -- ---- rule 6
 
-pub met-is : (s : State) (k : Kind) → needs_met s k ≡ allowed (context_in s) (some k)
+pub met-is : (s : State) (k : Kind) → needs_met s k ≡ allowed (context_in s) (Some k)
 unfolding allowed context_in
 met-is s Library = both (not s.library) (awaits-in s.first s.count)
 met-is s Struct = both s.library (awaits-in s.first s.count)
@@ -113,7 +121,7 @@ met-is s Sref = both s.library (present-in s.cell)
 met-is s Endlib = both s.library (awaits-in s.first s.count)
 
 -- an unknown record needs a LIBRARY before it
-pub unknown-needs : (s : State) → s.library ≡ allowed (context_in s) none
+pub unknown-needs : (s : State) → s.library ≡ allowed (context_in s) None
 unfolding allowed context_in
 unknown-needs s = sym (and-true s.library)
 
@@ -130,7 +138,7 @@ module _ (s : State) where
   both-back : (fresh ended : Bool) → none_awaiting s s.layer fresh ended ≡ with_cell (offset_number (offset_in s.cell)) (offset_number (offset_in s.layer)) 0 0 fresh ended
   both-back fresh ended = cell-back s.layer fresh ended ∙ ap (λ (n : ℕ). with_cell (offset_number (offset_in s.cell)) n 0 0 fresh ended) (number-back s.layer)
 
-  pub after_is : (at : ℕ) (k : Kind) → state_after s at k ≡ state_of (next (context_in s) at (some k))
+  pub after_is : (at : ℕ) (k : Kind) → state_after s at k ≡ state_of (next (context_in s) at (Some k))
   unfolding state_of context_in
   after_is at Library = refl
   after_is at Struct = refl
@@ -150,23 +158,23 @@ back : (n : ℕ) → offset_in (offset_number (offset_in n)) ≡ offset_in n
 back n = ap offset_in (sym (number-back n))
 
 module _ (s : State) where
-  abbrev context : Offset → Offset → Run → Bool → Bool → Context
+  abbrev context : Option ℕ → Option ℕ → Option Run → Bool → Bool → Context
   context cell layer run fresh ended = record { library = s.library; cell = cell; layer = layer; fresh = fresh; run = run; ended = ended }
 
   -- the state of the context after a record at an offset is that context
-  pub next-in : (at : ℕ) (k : Kind) → 0 < at → context_in (state_of (next (context_in s) at (some k))) ≡ next (context_in s) at (some k)
+  pub next-in : (at : ℕ) (k : Kind) → 0 < at → context_in (state_of (next (context_in s) at (Some k))) ≡ next (context_in s) at (Some k)
   unfolding state_of context_in run_in
-  next-in at Library h = λ i. record { library = true; cell = none_in i; layer = none_in i; fresh = false; run = Empty; ended = false }
-  next-in at Struct h = λ i. context (at_in at h i) (none_in i) Empty true false
-  next-in at Cprpty h = λ i. context (back s.cell i) (back s.layer i) Empty s.fresh false
+  next-in at Library h = λ i. record { library = true; cell = none_in i; layer = none_in i; fresh = false; run = None; ended = false }
+  next-in at Struct h = λ i. context (at_in at h i) (none_in i) None true false
+  next-in at Cprpty h = λ i. context (back s.cell i) (back s.layer i) None s.fresh false
   next-in at Property h = λ i. context (back s.cell i) (back s.layer i) (longer-back s.first s.count at i) false false
-  next-in at Layer h = λ i. context (back s.cell i) (at_in at h i) Empty false false
-  next-in at Box h = λ i. context (back s.cell i) (back s.layer i) Empty false false
-  next-in at Poly h = λ i. context (back s.cell i) (back s.layer i) Empty false false
-  next-in at Wire h = λ i. context (back s.cell i) (back s.layer i) Empty false false
-  next-in at Text h = λ i. context (back s.cell i) (back s.layer i) Empty false false
-  next-in at Sref h = λ i. context (back s.cell i) (back s.layer i) Empty false false
-  next-in at Endlib h = λ i. context (back s.cell i) (back s.layer i) Empty false true
+  next-in at Layer h = λ i. context (back s.cell i) (at_in at h i) None false false
+  next-in at Box h = λ i. context (back s.cell i) (back s.layer i) None false false
+  next-in at Poly h = λ i. context (back s.cell i) (back s.layer i) None false false
+  next-in at Wire h = λ i. context (back s.cell i) (back s.layer i) None false false
+  next-in at Text h = λ i. context (back s.cell i) (back s.layer i) None false false
+  next-in at Sref h = λ i. context (back s.cell i) (back s.layer i) None false false
+  next-in at Endlib h = λ i. context (back s.cell i) (back s.layer i) None false true
 
 -- ---- the start
 

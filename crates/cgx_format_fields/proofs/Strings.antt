@@ -1,24 +1,19 @@
--- A good string by its last byte and the bytes before its last two; and the loop that looks at these. Assumes nothing.
-use mathlib.Core.Path.{◌≡◌, refl, sym, ap, ◌∙◌, subst}
-use mathlib.Core.Bool.{Bool, true, false, not, ◌&&◌}
+-- A good string by its last byte and the bytes before its last two; and what `contains` and `ends_with` say. Assumes nothing.
+use mathlib.Core.Path.{◌≡◌, refl, sym, ap, ◌∙◌}
+use mathlib.Core.Bool.{Bool, true, false, not, ◌&&◌, ◌||◌}
 use mathlib.Core.List.{List, [], ◌∷◌}
-use Prim.Native.Nat.{ℕ, zero, suc, ◌+◌, ◌-◌, ◌≤◌, ◌<◌, ◌%◌}
-use native.Mathlib.Numerals.{add-one}
+use Prim.Native.Nat.{ℕ, zero, suc, ◌-◌, ◌<◌, ◌%◌}
 use native.Mathlib.Omega.{arith}
+use Rattle.std.proofs.Math.Bool.{and-false}
 use borrow.Author.Tests.{eq-eqb, ne_eqb}
-use lib.Dec.{T, eqb, eqb→eq}
-use lib.ListN.{length, take, drop, get_or}
-use lib.Seq.{drop-cons, drop-length}
-use Rattle.cgx_spec.specs.Numbers.{Bytes, number}
+use lib.Dec.{eqb}
+use lib.ListN.{length, take, get_or}
+use Rattle.std.specs.List.{list_any}
+use Rattle.std.specs.Cmp.Lexicographic.{pointwise}
 use Rattle.cgx_spec.specs.Strings.{same, text_of, padded, good_string}
 use Rattle.cgx_spec.specs.Fields.{good, optional}
-use Rattle.cgx_spec.proofs.Lists.{and-true, and_assoc, bool-ext, eq→eqb, same→eq, same_refl}
-use Rattle.cgx_spec.proofs.NumberLaws.{number_same}
+use Rattle.cgx_spec.proofs.Lists.{and-true, and_assoc}
 use Rattle.cgx_format_fields.specs.Zeros.{no_zero}
-
-and-false : (a : Bool) → (a && false) ≡ false
-and-false true = refl
-and-false false = refl
 
 -- ---- a string, two bytes at a time
 
@@ -45,7 +40,7 @@ two-more (suc x) (suc y) z t =
     ap (λ (v : Bool). v && (eqb (suc y) (suc y) && g)) (eqb-self (suc x)) ∙ ap (λ (v : Bool). v && g) (eqb-self (suc y))
     ∙ sym (ap (λ (v : Bool). v && (not (eqb (suc y) 0) && g)) ex ∙ ap (λ (v : Bool). v && g) ey)
 
-string-is : (b : List ℕ) → length b % 2 ≡ 0 → 0 < length b → (no_zero (take (length b - 2) b) && eqb (get_or b (length b - 1) 0) 0) ≡ good_string b
+pub string-is : (b : List ℕ) → length b % 2 ≡ 0 → 0 < length b → (no_zero (take (length b - 2) b) && eqb (get_or b (length b - 1) 0) 0) ≡ good_string b
 unfolding no_zero
 string-is [] h l = absurd (omega arith)
 string-is (x ∷ []) h l = absurd (omega arith)
@@ -62,12 +57,6 @@ string-is (x ∷ y ∷ z ∷ t) h l =
     ∙ ap (λ (v : Bool). not (eqb x 0) && (not (eqb y 0) && v)) ih
     ∙ sym (two-more x y z t)
 
--- as code has it, by a part that starts at 0
-pub string-parts : (b : List ℕ) {r : Bool} → r ≡ no_zero (take (length b - 2 - 0) (drop 0 b)) → length b % 2 ≡ 0 → 0 < length b → (r && eqb (get_or b (length b - 1) 0) 0) ≡ good_string b
-string-parts b {r} e h l =
-    let k : length b - 2 - 0 ≡ length b - 2 = omega arith in
-    ap (λ (v : Bool). v && eqb (get_or b (length b - 1) 0) 0) (e ∙ ap (λ (n : ℕ). no_zero (take n b)) k) ∙ string-is b h l
-
 pub string-empty : (b : List ℕ) → length b ≡ 0 → false ≡ good_string b
 unfolding good_string same text_of padded
 string-empty [] h = refl
@@ -83,34 +72,20 @@ unfolding good
 optional-some [] h e = absurd (h refl)
 optional-some (a ∷ b) h e = e
 
--- ---- the lower of two bytes is zero where one of them is
+-- ---- as the library's methods say it
 
-pub second-lower : (x y : ℕ) → y < x → not (eqb y 0) ≡ (not (eqb x 0) && not (eqb y 0))
-second-lower x y h = rw (ne_eqb x 0 (λ e. absurd (omega (arith, e)))) refl
+not-or : (a b : Bool) → not (a || b) ≡ (not a && not b)
+not-or true b = refl
+not-or false b = refl
 
-pub first-lower : (x y : ℕ) → x ≤ y → not (eqb x 0) ≡ (not (eqb x 0) && not (eqb y 0))
-first-lower zero y h = refl
-first-lower (suc n) y h = rw (ne_eqb y 0 (λ e. absurd (omega (arith, e)))) (sym (and-true (not (eqb (suc n) 0))))
+pub none-found : (b : List ℕ) → not (list_any (λ y. eqb y 0) b) ≡ no_zero b
+unfolding no_zero
+none-found [] = refl
+none-found (x ∷ b) = not-or (eqb x 0) (list_any (λ y. eqb y 0) b) ∙ ap (λ (v : Bool). not (eqb x 0) && v) (none-found b)
 
--- ---- the loop: what is found so far, and what the rest says
-
-module _ (b : List ℕ) (i : ℕ) (x a : Bool) (q : x ≡ (a && no_zero (drop i b))) where
-  pub none-on : i < length b → x ≡ (a && not (eqb (get_or b i 0) 0) && no_zero (drop (i + 1) b))
-  unfolding no_zero
-  none-on h =
-      q ∙ ap (λ (l : List ℕ). a && no_zero l) (drop-cons b i 0 h) ∙ ap (λ (k : ℕ). a && (not (eqb (get_or b i 0) 0) && no_zero (drop k b))) (sym (add-one i))
-      ∙ and_assoc a (not (eqb (get_or b i 0) 0)) (no_zero (drop (i + 1) b))
-
-  pub none_done : length b ≤ i → i ≤ length b → a ≡ x
-  unfolding no_zero
-  none_done h k =
-      let e : i ≡ length b = omega arith in
-      sym (q ∙ ap (λ (m : ℕ). a && no_zero (drop m b)) e ∙ ap (λ (l : List ℕ). a && no_zero l) (drop-length b) ∙ and-true a)
-
--- ---- eight bytes by their number
-
-pub same_number : (a b : List ℕ) → Bytes a → Bytes b → length a ≡ length b → eqb (number a) (number b) ≡ same a b
-same_number a b ha hb l =
-    bool-ext (eqb (number a) (number b)) (same a b)
-    (λ t. subst (λ (c : List ℕ). T (same a c)) (number_same a b ha hb l (eqb→eq (number a) (number b) t)) (same_refl a))
-    (λ t. eq→eqb (number a) (number b) (ap number (same→eq a b t)))
+pub pointwise-same : (a b : List ℕ) → pointwise eqb a b ≡ same a b
+unfolding same
+pointwise-same [] [] = refl
+pointwise-same [] (y ∷ b) = refl
+pointwise-same (x ∷ a) [] = refl
+pointwise-same (x ∷ a) (y ∷ b) = ap (λ (v : Bool). eqb x y && v) (pointwise-same a b)

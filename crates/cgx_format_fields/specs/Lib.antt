@@ -1,2 +1,2 @@
--- What the loop over a text's bytes answers.
+-- Whether a text has a zero byte.
 pub mod Zeros

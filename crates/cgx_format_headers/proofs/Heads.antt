@@ -1,4 +1,5 @@
 -- The cases of `cut` at an offset of a file, by the header there. Assumes nothing.
+use Rattle.std.specs.Prelude.{Err, Ok, Result}
 use mathlib.Core.Path.{◌≡◌, refl, sym, ap, ◌∙◌, subst}
 use mathlib.Core.Bool.{Bool, false, cond, ◌||◌}
 use mathlib.Core.List.{List, [], ◌∷◌}
@@ -13,10 +14,9 @@ use Rattle.cgx_spec.specs.Records.{size}
 use Rattle.cgx_spec.specs.Files.{Cut, bad, found, cut, cut_body}
 use Rattle.cgx_spec.specs.Walking.{size_at, rec_at, Held}
 use Rattle.cgx_format_headers.specs.declared.Header.{Header}
-use Rattle.cgx_format_headers.specs.declared.Headed.{Headed}
-use Rattle.cgx_format_headers.specs.declared.Headed.TheVariants.{Bad, Good}
 use Rattle.cgx_format_headers.specs.Headers.{header_of, cut_meant, HeaderAt, HeadIn, Heads}
 use Rattle.cgx_format_headers.proofs.HeaderLaws.{size-says}
+use Rattle.cgx_spec.specs.declared.FileRefusal.{FileRefusal}
 
 -- ---- cut
 
@@ -45,13 +45,13 @@ module _ (f : List ℕ) (at : ℕ) where
   left : length (drop at f) ≡ length f - at
   left = length-drop at f
 
-  pub head-3 : length f - at ≡ 0 → Heads f at (Bad 3)
+  pub head-3 : length f - at ≡ 0 → Heads f at (Err (record { number = 3; at = at }))
   unfolding cut_meant
-  head-3 h = record { cuts = cut-none (drop at f) (left ∙ h); inside = omega arith }
+  head-3 h = record { cuts = cut-none (drop at f) (left ∙ h); inside = (omega arith, refl) }
 
-  pub head-4 : (length f - at ≡ 0 → ⊥) → length f - at < 4 → Heads f at (Bad 4)
+  pub head-4 : (length f - at ≡ 0 → ⊥) → length f - at < 4 → Heads f at (Err (record { number = 4; at = at }))
   unfolding cut_meant
-  head-4 h k = record { cuts = cut-few (drop at f) (omega (arith, left)) (omega (arith, left)); inside = omega arith }
+  head-4 h k = record { cuts = cut-few (drop at f) (omega (arith, left)) (omega (arith, left)); inside = (omega arith, refl) }
 
   -- by the size of the header there
   module _ {h : Header} (i : at + 4 ≤ length f) (r : h ≡ header_of f at) where
@@ -81,28 +81,28 @@ module _ (f : List ℕ) (at : ℕ) where
     unfolding cut_body rec_at
     by_tests = cut_on
 
-    pub head-odd : n % 2 ≡ 1 → Heads f at (Bad 5)
+    pub head-odd : n % 2 ≡ 1 → Heads f at (Err (record { number = 5; at = at }))
     unfolding cut_meant
-    head-odd q = record { cuts = by_tests ∙ ap (λ (x : Bool). chosen x (ltb n 4) (ltb (length (drop (at + 4) f)) (n - 4))) (eq-eqb (n % 2) 1 q); inside = omega arith }
+    head-odd q = record { cuts = by_tests ∙ ap (λ (x : Bool). chosen x (ltb n 4) (ltb (length (drop (at + 4) f)) (n - 4))) (eq-eqb (n % 2) 1 q); inside = (omega arith, refl) }
 
     module _ (q : n % 2 ≡ 1 → ⊥) where
       past-5 : cut (drop at f) ≡ chosen false (ltb n 4) (ltb (length (drop (at + 4) f)) (n - 4))
       past-5 = by_tests ∙ ap (λ (x : Bool). chosen x (ltb n 4) (ltb (length (drop (at + 4) f)) (n - 4))) (ne_eqb (n % 2) 1 q)
 
-      pub head_small : n < 4 → Heads f at (Bad 5)
+      pub head_small : n < 4 → Heads f at (Err (record { number = 5; at = at }))
       unfolding cut_meant
-      head_small l = record { cuts = past-5 ∙ ap (λ (x : Bool). chosen false x (ltb (length (drop (at + 4) f)) (n - 4))) (lt-ltb n 4 l); inside = omega arith }
+      head_small l = record { cuts = past-5 ∙ ap (λ (x : Bool). chosen false x (ltb (length (drop (at + 4) f)) (n - 4))) (lt-ltb n 4 l); inside = (omega arith, refl) }
 
-      pub head-long : 4 ≤ n → length f - at < n → Heads f at (Bad 4)
+      pub head-long : 4 ≤ n → length f - at < n → Heads f at (Err (record { number = 4; at = at }))
       unfolding cut_meant
       head-long l k =
           record {
             cuts = past-5 ∙ ap (λ (x : Bool). chosen false x (ltb (length (drop (at + 4) f)) (n - 4))) (le-ltb n 4 l)
                 ∙ ap (chosen false false) (lt-ltb (length (drop (at + 4) f)) (n - 4) (omega (arith, length-drop (at + 4) f)));
-            inside = omega arith;
+            inside = (omega arith, refl);
           }
 
-      pub head-good : 4 ≤ n → n ≤ length f - at → n < 65536 → Heads f at (Good h)
+      pub head-good : 4 ≤ n → n ≤ length f - at → n < 65536 → Heads f at (Ok h)
       unfolding cut_meant
       head-good l k m =
           let z : at + 4 + (n - 4) ≡ at + n = omega arith in
@@ -115,7 +115,7 @@ module _ (f : List ℕ) (at : ℕ) where
 
 -- ---- what an answer says
 
-pub header-in : (f : List ℕ) (at : ℕ) {r : Headed} {h : Header} → Heads f at r → r ≡ Good h → HeaderAt f at h
+pub header-in : (f : List ℕ) (at : ℕ) {r : Result Header FileRefusal} {h : Header} → Heads f at r → r ≡ Ok h → HeaderAt f at h
 header-in f at d q = subst (HeadIn f at) q d.inside
 
 -- its record's body

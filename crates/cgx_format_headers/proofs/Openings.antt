@@ -1,13 +1,15 @@
 -- The laws of a file's first four bytes. Assumes nothing.
+use Rattle.std.specs.Prelude.{Ok}
 use mathlib.Core.Path.{◌≡◌, refl}
 use mathlib.Core.Bool.{Bool, true, false, cond, ◌&&◌}
 use mathlib.Core.List.{List, [], ◌∷◌}
-use Prim.Native.Nat.{ℕ, ◌≤◌, ◌<◌}
+use Prim.Native.Nat.{ℕ, zero, suc, ◌≤◌, ◌<◌}
 use native.Mathlib.Omega.{arith}
 use borrow.Author.Tests.{eq-eqb, ne_eqb}
 use lib.Dec.{eqb}
 use lib.ListN.{length, get_or}
 use Rattle.cgx_spec.specs.Files.{opening}
+use Rattle.cgx_format_headers.specs.Headers.{opened}
 
 pub opening-short : (f : List ℕ) → length f < 4 → 1 ≡ opening f
 unfolding opening
@@ -59,3 +61,11 @@ module _ (f : List ℕ) (h : 4 ≤ length f) where
 
         pub well-begun : get_or f 3 0 ≡ 0 → 0 ≡ opening f
         well-begun q = opening-by true true true true (eq-eqb _ 99 c) (eq-eqb _ 103 g) (eq-eqb _ 120 x) (eq-eqb _ 0 q)
+
+-- a file of which nothing is said begins well
+pub opening-good : (f : List ℕ) {u : Unit {0}} → Ok u ≡ opened (opening f) → opening f ≡ 0
+opening-good f {u} q = go (opening f) q
+  where
+    go : (n : ℕ) → Ok u ≡ opened n → n ≡ 0
+    go zero z = refl
+    go (suc n) z = absurd (let x : ◌≡◌ {A = ℕ} 0 1 = cc in omega arith)

@@ -1,5 +1,5 @@
 -- What typed fields, views and their lists say of a file f, in the terms of the format: the contracts of all readers cite these. Definitions only.
-use Rattle.std.specs.Prelude.{List, [], ◌∷◌, ℕ, ◌*◌, ℤ, pos, take, drop}
+use Rattle.std.specs.Prelude.{List, [], ◌∷◌, ℕ, ◌*◌, ℤ, pos, take, drop, None, Option, Some}
 use Rattle.cgx_spec.specs.declared.Kind.{Kind}
 use Rattle.cgx_spec.specs.declared.Kind.TheVariants as kinds
 use Rattle.cgx_spec.specs.Numbers.{longs_of}
@@ -7,26 +7,22 @@ use Rattle.cgx_spec.specs.Reals.{answer_value}
 use Rattle.cgx_spec.specs.Fields.{Value, missing, exactly, numbers, text}
 use Rattle.cgx_spec.specs.Records
 use Rattle.cgx_format_kinds.specs.declared.TextSpan.{TextSpan}
-use Rattle.cgx_format_kinds.specs.declared.Name.{Name}
-use Rattle.cgx_format_kinds.specs.declared.Name.TheVariants.{Absent, Present}
 use Rattle.cgx_format_kinds.specs.declared.Date.{Date}
 use Rattle.cgx_format_kinds.specs.declared.Point.{Point}
 use Rattle.cgx_format_kinds.specs.declared.ItemList.{ItemList}
-use Rattle.cgx_format_kinds.specs.declared.OptionalReal.{OptionalReal}
-use Rattle.cgx_format_kinds.specs.declared.OptionalReal.TheVariants.{Missing, Given}
-use Rattle.cgx_format_kinds.specs.declared.Array.{Array}
-use Rattle.cgx_format_kinds.specs.declared.Array.TheVariants.{Single, Of}
+use Rattle.cgx_format_kinds.specs.declared.Grid.{Grid}
 use Rattle.cgx_format_kinds.specs.declared.Fields.{Fields}
 use Rattle.cgx_format_kinds.specs.declared.Fields.TheVariants.{Library, Struct, Cprpty, Property, Layer, Box, Poly, Wire, Text, Sref, Endlib}
 use Rattle.cgx_format_kinds.specs.declared.View.{View}
+use Rattle.cgx_spec.specs.declared.Real.{Real}
 
 -- The bytes of a text.
 unfoldable pub span_text : List ℕ → TextSpan → Value
 span_text f s = text (take s.len (drop s.at f))
 
-unfoldable pub name_text : List ℕ → Name → Value
-name_text f Absent = missing
-name_text f (Present s) = span_text f s
+unfoldable pub name_text : List ℕ → Option TextSpan → Value
+name_text f None = missing
+name_text f (Some s) = span_text f s
 
 unfoldable pub date_numbers : Date → Value
 date_numbers d = numbers (d.year ∷ pos d.month ∷ pos d.day ∷ pos d.hour ∷ pos d.minute ∷ pos d.second ∷ [])
@@ -41,14 +37,14 @@ point_numbers p = numbers (p.x ∷ p.y ∷ [])
 unfoldable pub list_numbers : ℕ → List ℕ → ItemList → Value
 list_numbers u f r = numbers (longs_of (take (u * r.count) (drop r.first f)))
 
-unfoldable pub optional_value : OptionalReal → Value
-optional_value Missing = missing
-optional_value (Given r) = exactly (answer_value r)
+unfoldable pub optional_value : Option Real → Value
+optional_value None = missing
+optional_value (Some r) = exactly (answer_value r)
 
 -- Columns, rows and the two points: four fields.
-unfoldable pub array_values : Array → List Value → List Value
-array_values Single vs = missing ∷ missing ∷ missing ∷ missing ∷ vs
-array_values (Of c r a u) vs = one c ∷ one r ∷ point_numbers a ∷ point_numbers u ∷ vs
+unfoldable pub array_values : Option Grid → List Value → List Value
+array_values None vs = missing ∷ missing ∷ missing ∷ missing ∷ vs
+array_values (Some g) vs = one g.cols ∷ one g.rows ∷ point_numbers g.across ∷ point_numbers g.up ∷ vs
 
 -- The values of a record's fields; the last is that of what is left over of its body, which is nothing.
 unfoldable pub field_values : List ℕ → Fields → List Value

@@ -1,21 +1,15 @@
 // The kinds of record as a reader gives them: the typed fields of each, and its limits as named constants.
 #![tactic(auto)]
 
-use cgx_spec::{Kind, Offset, Real, Run};
+use cgx_spec::{Kind, Real, Run};
 
 // ---- what fields are made of
 
-// The text of a string, a part of the file.
+// The text of a string, a part of the file. Offset and length, as C has them, and no slice: fields outlive the loan of the file (the C interface).
 #[derive(Clone, Copy)]
 pub struct TextSpan {
     pub at: usize,
     pub len: usize,
-}
-
-#[derive(Clone, Copy)]
-pub enum Name {
-    Absent,
-    Present(TextSpan),
 }
 
 #[derive(Clone, Copy)]
@@ -41,29 +35,29 @@ pub struct Point {
     pub y: i32,
 }
 
-// Boxes or points, one after another in the file: the offset of the first, and how many.
+// Boxes or points, one after another in the file: the offset of the first, and how many. No `TextSpan`, which counts bytes (no plainer).
 #[derive(Clone, Copy)]
 pub struct ItemList {
     pub first: usize,
     pub count: usize,
 }
 
+// The least rectangle around something, or a box of a BOX.
 #[derive(Clone, Copy)]
-pub enum OptionalReal {
-    Missing,
-    Given(Real),
+pub struct Sides {
+    pub left: i32,
+    pub bottom: i32,
+    pub right: i32,
+    pub top: i32,
 }
 
-// An SREF without ARRAY, or its columns, rows and two points.
+// The array of an SREF: its columns, rows and two points.
 #[derive(Clone, Copy)]
-pub enum Array {
-    Single,
-    Of {
-        cols: i32,
-        rows: i32,
-        across: Point,
-        up: Point,
-    },
+pub struct Grid {
+    pub cols: i32,
+    pub rows: i32,
+    pub across: Point,
+    pub up: Point,
 }
 
 // ---- the eleven kinds
@@ -84,6 +78,7 @@ pub struct Struct {
     pub name: TextSpan,
 }
 
+// Of the same members as `Property`, and yet a type of its own: of a cell's and of an object's one cannot be taken for the other (no plainer).
 #[derive(Clone, Copy)]
 pub struct Cprpty {
     pub number: i32,
@@ -100,7 +95,7 @@ pub struct Property {
 pub struct Layer {
     pub number: LayerNo,
     pub datatype: DataType,
-    pub name: Name,
+    pub name: Option<TextSpan>,
 }
 
 #[derive(Clone, Copy)]
@@ -129,9 +124,9 @@ pub struct Text {
 #[derive(Clone, Copy)]
 pub struct Sref {
     pub at: Point,
-    pub angle: OptionalReal,
-    pub magnif: OptionalReal,
-    pub array: Array,
+    pub angle: Option<Real>,
+    pub magnif: Option<Real>,
+    pub array: Option<Grid>,
     pub name: TextSpan,
 }
 
@@ -157,9 +152,9 @@ pub struct View {
     pub flags: u8,
     pub fields: Fields,
     pub at: usize,
-    pub cell: Offset,
-    pub layer: Offset,
-    pub run: Run,
+    pub cell: Option<usize>,
+    pub layer: Option<usize>,
+    pub run: Option<Run>,
 }
 
 // ---- limits: sizes include the header, whose size and the size that no record passes are constants of `Kind`
@@ -217,6 +212,7 @@ impl Poly {
     pub const MAX_COUNT: usize = 8191;
 }
 
+// Constants of its own, also where they are a POLY's: a pair is the same by the format's table, and not because a wire has a polygon's (no plainer).
 impl Wire {
     pub const WIDTH_SIZE: usize = 4;
 

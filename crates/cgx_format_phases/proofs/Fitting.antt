@@ -1,7 +1,7 @@
 -- A phase is what rule 6 sees of a context: it refuses the same records, and goes on with the context. Assumes nothing.
+use Rattle.std.specs.Prelude.{None, Option, Some}
 use mathlib.Core.Path.{◌≡◌, refl, sym, ap, ap₂, ◌∙◌, subst}
 use mathlib.Core.Bool.{Bool, true, false, cond}
-use mathlib.Core.Option.{Option, none, some}
 use Prim.Native.Nat.{ℕ}
 use lib.Dec.{T}
 use Rattle.cgx_spec.specs.declared.Kind.{Kind}
@@ -21,25 +21,25 @@ fits-start = refl
 
 -- where a record is allowed, the facts after it
 abbrev onward : Option OrderFacts → Option Kind → Option OrderFacts
-onward none o = none
-onward (some s) o = cond (may s o) (some (seen (then s o))) none
+onward None o = None
+onward (Some s) o = cond (may s o) (Some (seen (then s o))) None
 
 abbrev Agrees : Phase → Option Kind → Type 0
 Agrees p o = onward (facts_in p) o ≡ facts_in (after_phase p o)
 
-each-kind : (q : Phase) → Agrees q none → Agrees q (some LIBRARY) → Agrees q (some STRUCT) → Agrees q (some CPRPTY) → Agrees q (some PROPERTY) → Agrees q (some LAYER) → Agrees q (some BOX) → Agrees q (some POLY) → Agrees q (some WIRE) → Agrees q (some TEXT) → Agrees q (some SREF) → Agrees q (some ENDLIB) → (o : Option Kind) → Agrees q o
-each-kind q u l s c p y b o w t r e none = u
-each-kind q u l s c p y b o w t r e (some LIBRARY) = l
-each-kind q u l s c p y b o w t r e (some STRUCT) = s
-each-kind q u l s c p y b o w t r e (some CPRPTY) = c
-each-kind q u l s c p y b o w t r e (some PROPERTY) = p
-each-kind q u l s c p y b o w t r e (some LAYER) = y
-each-kind q u l s c p y b o w t r e (some BOX) = b
-each-kind q u l s c p y b o w t r e (some POLY) = o
-each-kind q u l s c p y b o w t r e (some WIRE) = w
-each-kind q u l s c p y b o w t r e (some TEXT) = t
-each-kind q u l s c p y b o w t r e (some SREF) = r
-each-kind q u l s c p y b o w t r e (some ENDLIB) = e
+each-kind : (q : Phase) → Agrees q None → Agrees q (Some LIBRARY) → Agrees q (Some STRUCT) → Agrees q (Some CPRPTY) → Agrees q (Some PROPERTY) → Agrees q (Some LAYER) → Agrees q (Some BOX) → Agrees q (Some POLY) → Agrees q (Some WIRE) → Agrees q (Some TEXT) → Agrees q (Some SREF) → Agrees q (Some ENDLIB) → (o : Option Kind) → Agrees q o
+each-kind q u l s c p y b o w t r e None = u
+each-kind q u l s c p y b o w t r e (Some LIBRARY) = l
+each-kind q u l s c p y b o w t r e (Some STRUCT) = s
+each-kind q u l s c p y b o w t r e (Some CPRPTY) = c
+each-kind q u l s c p y b o w t r e (Some PROPERTY) = p
+each-kind q u l s c p y b o w t r e (Some LAYER) = y
+each-kind q u l s c p y b o w t r e (Some BOX) = b
+each-kind q u l s c p y b o w t r e (Some POLY) = o
+each-kind q u l s c p y b o w t r e (Some WIRE) = w
+each-kind q u l s c p y b o w t r e (Some TEXT) = t
+each-kind q u l s c p y b o w t r e (Some SREF) = r
+each-kind q u l s c p y b o w t r e (Some ENDLIB) = e
 
 -- the table is rule 6 and what follows from a record, of the states, by computation
 table : (p : Phase) → is_ended p ≡ false → (o : Option Kind) → Agrees p o
@@ -57,12 +57,12 @@ table Refused e = each-kind Refused refl refl refl refl refl refl refl refl refl
 -- ---- the laws
 
 abbrev over : Option OrderFacts → Bool
-over none = false
-over (some s) = s.ended
+over None = false
+over (Some s) = s.ended
 
 abbrev has_state : Option OrderFacts → Bool
-has_state none = false
-has_state (some s) = true
+has_state None = false
+has_state (Some s) = true
 
 ended-in : (p : Phase) → over (facts_in p) ≡ is_ended p
 ended-in Start = refl
@@ -93,7 +93,7 @@ seen-ended s = go s.ended refl
     go true e = sym e
     go false e = refl
 
-state-when : (b : Bool) (s : OrderFacts) → has_state (cond b (some s) none) ≡ b
+state-when : (b : Bool) (s : OrderFacts) → has_state (cond b (Some s) None) ≡ b
 state-when true s = refl
 state-when false s = refl
 
@@ -103,14 +103,14 @@ module _ (p : Phase) (c : Context) (f : Fits p c) where
   ended_is = sym (seen-ended (facts_of c)) ∙ ap over f ∙ ended-in p
 
   module _ (e : is_ended p ≡ false) where
-    going : some (facts_of c) ≡ facts_in p
+    going : Some (facts_of c) ≡ facts_in p
     unfolding Fits
-    going = ap (λ (b : Bool). some (cond b (facts false false false false false true) (facts_of c))) (sym (ended_is ∙ e)) ∙ f
+    going = ap (λ (b : Bool). Some (cond b (facts false false false false false true) (facts_of c))) (sym (ended_is ∙ e)) ∙ f
 
     module _ (at : ℕ) (o : Option Kind) where
-      on : cond (allowed c o) (some (seen (facts_of (next c at o)))) none ≡ facts_in (after_phase p o)
+      on : cond (allowed c o) (Some (seen (facts_of (next c at o)))) None ≡ facts_in (after_phase p o)
       on =
-          ap₂ (λ (b : Bool) (s : OrderFacts). cond b (some (seen s)) none) (may-is c o) (then_is c at o)
+          ap₂ (λ (b : Bool) (s : OrderFacts). cond b (Some (seen s)) None) (may-is c o) (then_is c at o)
           ∙ ap (λ (s : Option OrderFacts). onward s o) going
           ∙ table p e o
 
@@ -121,4 +121,4 @@ module _ (p : Phase) (c : Context) (f : Fits p c) where
       -- and what follows
       pub fits_on : allowed c o ≡ true → Fits (after_phase p o) (next c at o)
       unfolding Fits
-      fits_on a = ap (λ (b : Bool). cond b (some (seen (facts_of (next c at o)))) none) (sym a) ∙ on
+      fits_on a = ap (λ (b : Bool). cond b (Some (seen (facts_of (next c at o)))) None) (sym a) ∙ on

@@ -1,6 +1,5 @@
 -- The phase after a record, as a table. That this is rule 6 of the contexts is proved in proofs/Fitting. Definitions only.
-use Rattle.std.specs.Prelude.{◌≡◌, Bool, true, false, cond}
-use Rattle.std.proofs.Math.Option.{Option, none, some}
+use Rattle.std.specs.Prelude.{◌≡◌, Bool, true, false, cond, None, Option, Some}
 use Rattle.cgx_spec.specs.declared.Kind.{Kind}
 use Rattle.cgx_spec.specs.declared.Kind.TheVariants.{Library as LIBRARY, Struct as STRUCT, Cprpty as CPRPTY, Property as PROPERTY, Layer as LAYER, Box as BOX, Poly as POLY, Wire as WIRE, Text as TEXT, Sref as SREF, Endlib as ENDLIB}
 use Rattle.cgx_spec.specs.declared.Context.{Context}
@@ -61,18 +60,18 @@ abbrev pub after_endlib : Phase → Phase
 after_endlib = row no Ended Ended Ended Ended no no no no
 
 abbrev pub after_phase : Phase → Option Kind → Phase
-after_phase p none = after_unknown p
-after_phase p (some LIBRARY) = after_library p
-after_phase p (some STRUCT) = after_struct p
-after_phase p (some CPRPTY) = after_cprpty p
-after_phase p (some PROPERTY) = after_property p
-after_phase p (some LAYER) = after_layer p
-after_phase p (some BOX) = after_shape p
-after_phase p (some POLY) = after_shape p
-after_phase p (some WIRE) = after_shape p
-after_phase p (some TEXT) = after_shape p
-after_phase p (some SREF) = after_sref p
-after_phase p (some ENDLIB) = after_endlib p
+after_phase p None = after_unknown p
+after_phase p (Some LIBRARY) = after_library p
+after_phase p (Some STRUCT) = after_struct p
+after_phase p (Some CPRPTY) = after_cprpty p
+after_phase p (Some PROPERTY) = after_property p
+after_phase p (Some LAYER) = after_layer p
+after_phase p (Some BOX) = after_shape p
+after_phase p (Some POLY) = after_shape p
+after_phase p (Some WIRE) = after_shape p
+after_phase p (Some TEXT) = after_shape p
+after_phase p (Some SREF) = after_sref p
+after_phase p (Some ENDLIB) = after_endlib p
 
 -- ---- what a phase says of a context
 
@@ -83,15 +82,15 @@ facts l c y f w e = record { library = l; cell = c; layer = y; fresh = f; waitin
 abbrev pub facts_in : Phase → Option OrderFacts
 facts_in =
     row
-    (some (facts false false false false false false))
-    (some (facts true false false false false false))
-    (some (facts true true false true false false))
-    (some (facts true true false false false false))
-    (some (facts true true true false false false))
-    (some (facts true true false false true false))
-    (some (facts true true true false true false))
-    (some (facts false false false false false true))
-    none
+    (Some (facts false false false false false false))
+    (Some (facts true false false false false false))
+    (Some (facts true true false true false false))
+    (Some (facts true true false false false false))
+    (Some (facts true true true false false false))
+    (Some (facts true true false false true false))
+    (Some (facts true true true false true false))
+    (Some (facts false false false false false true))
+    None
 
 -- after ENDLIB rule 6 is asked no more, so that the phase is one whatever was open
 abbrev pub seen : OrderFacts → OrderFacts
@@ -99,4 +98,4 @@ seen s = cond s.ended (facts false false false false false true) s
 
 -- The phase is what rule 6 sees of the context.
 unfoldable pub Fits : Phase → Context → Type 0
-Fits p c = some (seen (facts_of c)) ≡ facts_in p
+Fits p c = Some (seen (facts_of c)) ≡ facts_in p

@@ -3,30 +3,29 @@
 
 ghost use Rattle.std.specs.Prelude.{◌≡◌};
 ghost use Rattle.cgx_spec.specs.Kinds.{good_flags};
+ghost use Rattle.cgx_spec.specs.Verdicts.{numbered};
 ghost use Rattle.cgx_format_bodies.specs.Bodies.{body_fault, Body};
-ghost use Rattle.cgx_format_headers.specs.Headers.{kind_in};
 ghost use Rattle.cgx_format_records.specs.Faults.{FaultIs};
 
-use cgx_format_headers::RecordType;
 use cgx_format_kinds::{Sref, Wire};
-use cgx_spec::Kind;
+use cgx_spec::{Fault, Kind};
 
-// The first of the rules 6 to 12 that a record breaks, or 0. Whether rule 6 allows it here is told; nothing more is asked of an unknown one.
-pub fn record_fault(here: bool, t: RecordType, fl: u8, b: &[u8]) -> u8
+// The first of the rules 6 to 12 that a record breaks, if any. Whether rule 6 allows it here is told; nothing more is asked of an unknown one.
+pub fn record_fault(here: bool, t: Option<Kind>, fl: u8, b: &[u8]) -> Result<(), Fault>
     requires { Body b.now }
-    ensures { FaultIs here (kind_in t) fl b.now result }
+    ensures { FaultIs here t fl b.now (numbered result) }
 {
     if !here {
-        return 6;
+        return Err(Fault::Order);
     }
     match t {
-        RecordType::Known(k) => {
+        Some(k) => {
             if !flags_good(k, fl) {
-                return 7;
+                return Err(Fault::Flags);
             }
             body_fault(k, fl, b)
         }
-        RecordType::Unknown => 0,
+        None => Ok(()),
     }
 }
 
@@ -35,24 +34,16 @@ pub fn flags_good(k: Kind, fl: u8) -> bool
     ensures { result ≡ good_flags k fl }
 {
     match k {
-        Kind::Library => true,
-        Kind::Struct => true,
-        Kind::Cprpty => true,
-        Kind::Property => true,
-        Kind::Layer => true,
-        Kind::Box => true,
-        Kind::Poly => true,
         Kind::Wire => fl <= Wire::MAX_FLAGS,
-        Kind::Text => true,
         Kind::Sref => fl <= Sref::MAX_FLAGS,
-        Kind::Endlib => true,
+        _ => true,
     }
 }
 
 // The rules 8 to 12.
-pub fn body_fault(k: Kind, fl: u8, b: &[u8]) -> u8
+pub fn body_fault(k: Kind, fl: u8, b: &[u8]) -> Result<(), Fault>
     requires { Body b.now }
-    ensures { result ≡ body_fault k fl b.now }
+    ensures { numbered result ≡ body_fault k fl b.now }
 {
     match k {
         Kind::Library => cgx_format_bodies::library_fault(b, fl),

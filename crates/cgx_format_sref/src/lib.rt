@@ -12,7 +12,8 @@ pub struct SrefLayout {
     pub turned: bool,
     pub scaled: bool,
     pub repeated: bool,
-    // Where magnif, array and name begin, in bytes from the record's first. The angle begins at 12.
+    // Where magnif, array and name begin, in bytes from the record's first. The angle begins at 12. No `Option` each: such an offset is that of the next field
+    // where this one is not there (no plainer).
     pub magnif: usize,
     pub array: usize,
     pub name: usize,
@@ -38,7 +39,7 @@ pub fn sref_layout(flags: u8) -> SrefLayout
     }
 }
 
-// Where the next field begins: w bytes after o, if this one is there.
+// Where the next field begins: w bytes after o, if this one is there. The offset counts either way, so that an `Option` of it would not do.
 fn after(there: bool, o: usize, w: usize) -> usize
     requires { (o ≤ 100) × (w ≤ 100) }
     ensures { result ≡ cond there (o + w) o }

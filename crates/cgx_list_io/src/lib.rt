@@ -15,13 +15,15 @@ use std::io::{Read, Write};
 pub fn list_from<R: Read, W: Write>(from: &mut R, to: &mut W) -> io::Result<()>
     ensures { OnOk result (IfSome (R.remaining from.old) (λ f. Appends (W.contents to.old) (W.contents to.new) (listing_of f))) }
 {
+    // Fixed, here and below, with the length beside it (a rule of the project: no heap).
     let mut buf = [0u8; LIMIT + 1];
     let (n, end) = read_full(from, &mut buf);
     list(&buf[..n], to)?;
     end
 }
 
-// Reads until the buffer is full, the input ends or a read fails. Answers how many bytes are then at its beginning, and the error.
+// Reads until the buffer is full, the input ends or a read fails. Answers how many bytes are then at its beginning, and the error. A loop of its own, since std's
+// `read_to_end` takes an allocator (a rule of the project: no heap) and `read_exact` tells no length.
 fn read_full<R: Read>(from: &mut R, buf: &mut [u8]) -> (usize, io::Result<()>)
     ensures inside { result.0 ≤ length buf.new }
     ensures bytes { Consumes (R.remaining from.old) (R.remaining from.new) (take result.0 buf.new) }

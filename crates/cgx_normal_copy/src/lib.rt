@@ -33,17 +33,9 @@ pub fn flags_meant(k: Kind, fl: u8) -> u8
     ensures { result ≡ flags_of k fl }
 {
     match k {
-        Kind::Library => fl,
-        Kind::Struct => 0,
-        Kind::Cprpty => 0,
-        Kind::Property => 0,
-        Kind::Layer => 0,
-        Kind::Box => 0,
-        Kind::Poly => 0,
-        Kind::Wire => fl,
+        Kind::Library | Kind::Wire | Kind::Sref => fl,
         Kind::Text => text_flags(fl),
-        Kind::Sref => fl,
-        Kind::Endlib => 0,
+        _ => 0,
     }
 }
 
@@ -72,7 +64,7 @@ fn copy_flagged(whole: &[u8], flags: u8, out: &mut [u8], to: usize)
 
 // ---- reals
 
-// The reals of a body: at most two, one after another from byte `skip` on.
+// The reals of a body: at most two, one after another from byte `skip` on. Whether each is there, and no `Option` of it: it is read and stored where it lies (no plainer).
 #[derive(Clone, Copy)]
 struct Reals {
     skip: usize,
@@ -119,6 +111,7 @@ fn put_reals(reals: Reals, body: &[u8], out: &mut [u8], to: usize)
     put_real(second, body, next, out, to + next);
 }
 
+// `there` is a flag of `Reals`, which says of both reals of a kind whether they are there: neither has an offset before the one before it is known, so that `Option`s would not do.
 fn real_width(there: bool) -> usize
     ensures { result ≡ real_width there }
 {

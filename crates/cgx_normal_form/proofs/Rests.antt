@@ -1,4 +1,5 @@
 -- The turns of the maker's loop over the sequence of an accepted file. Assumes nothing.
+use Rattle.std.specs.Prelude.{None, Some, Err}
 use mathlib.Core.Path.{◌≡◌, refl, sym, ap, ◌∙◌}
 use mathlib.Core.Bool.{Bool, true, false, cond}
 use mathlib.Core.List.{List, [], ◌++◌}
@@ -7,9 +8,9 @@ use native.Mathlib.Omega.{arith}
 use borrow.Author.Tests.{lt-leb, le-leb}
 use lib.ListN.{length, take, drop, length-append}
 use lib.Seq.{length-take-le}
-use Rattle.cgx_spec.specs.declared.Offset.TheVariants.{Nowhere, At}
-use Rattle.cgx_spec.specs.declared.Verdict.{Verdict}
-use Rattle.cgx_spec.specs.declared.Verdict.TheVariants.{Accepted as accepted, Refused as refused}
+use Rattle.cgx_spec.specs.declared.FileRefusal.{FileRefusal}
+use Rattle.cgx_spec.specs.Verdicts.{Verdict, of_file}
+use Rattle.cgx_spec.specs.Verdicts.{accepted, refused}
 use Rattle.cgx_spec.specs.Numbers.{Bytes}
 use Rattle.cgx_spec.specs.Fields.{join}
 use Rattle.cgx_spec.specs.Records.{Rec, bytes_of, normal_of}
@@ -20,13 +21,12 @@ use Rattle.buffers.specs.Put.{put}
 use Rattle.buffers.proofs.Puts.{put-nil, put_next, put-length, put_is}
 use Rattle.cgx_normal_copy.specs.Copy.{Copyable}
 use Rattle.cgx_format_headers.proofs.Heads.{held-size}
-use Rattle.cgx_read_sequence.specs.declared.KnownRecord.{KnownRecord}
+use Rattle.cgx_format_headers.specs.declared.KnownRecord.{KnownRecord}
 use Rattle.cgx_read_sequence.specs.Sequence.{Rest, First}
 use Rattle.cgx_read_sequence.proofs.Rests.{first_rest}
 use Rattle.cgx_read_check.specs.Measure.{normal_run}
 use Rattle.cgx_read_check.proofs.Runs.{length-of, fits-of, size-normal, form-is, form-long}
-use Rattle.cgx_normal_form.specs.NormalAnswer.{room_for, made, normal_answer_of, left, output_after}
-use Rattle.cgx_normal_form.specs.declared.NormalAnswer.TheVariants.{Refused, Length}
+use Rattle.cgx_normal_form.specs.NormalAnswer.{of_length, refused_with, room_for, made, normal_answer_of, left, output_after}
 
 -- ---- the copying loop
 
@@ -103,23 +103,23 @@ left_is f out h =
     put_is out 0 (normal_form f) (omega arith) ∙ ap (λ (n : ℕ). normal_form f ++ drop n out) z
 
 module _ (f out : List ℕ) where
-  pub made-refused : {n p : ℕ} → verdict_of f ≡ refused n p → (Refused n (At p) ≡ normal_answer_of f (length out)) × (out ≡ output_after f out)
+  pub made-refused : {r : FileRefusal} → verdict_of f ≡ Err r → (Err (of_file r) ≡ normal_answer_of f (length out)) × (out ≡ output_after f out)
   unfolding normal_answer_of output_after
   made-refused e = (sym (ap (λ (v : Verdict). made v f (length out)) e), sym (ap (λ (v : Verdict). left v f out) e))
 
   module _ (e : verdict_of f ≡ accepted) where
-    pub by-room : (b : Bool) → room_for f (length out) ≡ b → (cond b (Length (length (normal_form f))) (Refused 14 Nowhere) ≡ normal_answer_of f (length out)) × (cond b (normal_form f ++ drop (length (normal_form f)) out) out ≡ output_after f out)
+    pub by-room : (b : Bool) → room_for f (length out) ≡ b → (cond b (of_length (length (normal_form f))) (refused_with 14 None) ≡ normal_answer_of f (length out)) × (cond b (normal_form f ++ drop (length (normal_form f)) out) out ≡ output_after f out)
     unfolding normal_answer_of output_after
     by-room b r = (
-      sym (ap (λ (v : Verdict). made v f (length out)) e ∙ ap (λ (x : Bool). cond x (Length (length (normal_form f))) (Refused 14 Nowhere)) r),
+      sym (ap (λ (v : Verdict). made v f (length out)) e ∙ ap (λ (x : Bool). cond x (of_length (length (normal_form f))) (refused_with 14 None)) r),
       sym (ap (λ (v : Verdict). left v f out) e ∙ ap (λ (x : Bool). cond x (normal_form f ++ drop (length (normal_form f)) out) out) r),
     )
 
-    pub made-short : {n : ℕ} → n ≡ length (normal_form f) → length out < n → (Refused 14 Nowhere ≡ normal_answer_of f (length out)) × (out ≡ output_after f out)
+    pub made-short : {n : ℕ} → n ≡ length (normal_form f) → length out < n → (refused_with 14 None ≡ normal_answer_of f (length out)) × (out ≡ output_after f out)
     made-short q l = by-room false (lt-leb (length (normal_form f)) (length out) (omega arith))
 
-    pub made-whole : {n : ℕ} (new : List ℕ) → n ≡ length (normal_form f) → n ≤ length out → new ≡ put out 0 (normal_form f) → (Length n ≡ normal_answer_of f (length out)) × (new ≡ output_after f out)
+    pub made-whole : {n : ℕ} (new : List ℕ) → n ≡ length (normal_form f) → n ≤ length out → new ≡ put out 0 (normal_form f) → (of_length n ≡ normal_answer_of f (length out)) × (new ≡ output_after f out)
     made-whole new q l d =
         let h : length (normal_form f) ≤ length out = omega arith in
         let r = by-room true (le-leb (length (normal_form f)) (length out) h) in
-        (ap Length q ∙ r.0, d ∙ left_is f out h ∙ r.1)
+        (ap of_length q ∙ r.0, d ∙ left_is f out h ∙ r.1)

@@ -8,44 +8,25 @@ ghost use Rattle.cgx_normal_form.specs.NormalAnswer.{normal_answer_of, output_af
 
 use buffers::put_bytes;
 use cgx_normal_copy::copy_record;
-use cgx_read_check::{Measured, measure};
-use cgx_read_sequence::{Next, next_known};
-use cgx_spec::Offset;
+use cgx_read_check::measure;
+use cgx_read_sequence::next_known;
+use cgx_spec::{Fault, Refusal};
 
-// What the maker answers.
-#[derive(Clone, Copy)]
-pub enum NormalAnswer {
-    // The file's refusal with its place, or 14 with none.
-    Refused { number: u8, at: Offset },
-    // The normal form is at the beginning of the output, and is so long.
-    Length(usize),
-}
-
-// Makes the normal form of an accepted file. On a refusal no byte of the output changes.
-pub fn normal_form(file: &[u8], out: &mut [u8]) -> NormalAnswer
+// Makes the normal form of an accepted file at the beginning of the output, and answers its length: else the file's refusal, or 14. On a refusal no byte of the output changes.
+// A lent output and the length of what stands in it (the C interface; no heap).
+pub fn normal_form(file: &[u8], out: &mut [u8]) -> Result<usize, Refusal>
     ensures value { result ≡ normal_answer_of file.now (length out.old) }
     ensures output { out.new ≡ output_after file.now out.old }
 {
-    let found = measure(file);
-    match found {
-        Measured::Refused { number, at } => NormalAnswer::Refused {
-            number,
-            at: Offset::At(at),
-        },
-        Measured::Accepted { length } => {
-            if out.len() < length {
-                return NormalAnswer::Refused {
-                    number: 14,
-                    at: Offset::Nowhere,
-                };
-            }
-            copy_records(file, out);
-            NormalAnswer::Length(length)
-        }
+    let length = measure(file)?;
+    if out.len() < length {
+        return Err(Fault::Room.nowhere());
     }
+    copy_records(file, out);
+    Ok(length)
 }
 
-// Writes the normal form to the beginning of an output that has room for it.
+// Writes the normal form to the beginning of an output that has room for it. Both offsets go on by hand: each record says how far the next one is (no plainer).
 fn copy_records(file: &[u8], out: &mut [u8])
     requires { Accepted file.now × (length (normal_form file.now) ≤ length out.old) }
     ensures { out.new ≡ put out.old 0 (normal_form file.now) }
@@ -53,18 +34,9 @@ fn copy_records(file: &[u8], out: &mut [u8])
     put_bytes(out, 0, &file[0..4]);
     let mut to: usize = 4;
     let mut at: usize = 4;
-    loop {
-        let next = next_known(file, at);
-        match next {
-            Next::End => {
-                return;
-            }
-            Next::Found(r) => {
-                let k = r.kind;
-                copy_record(file, k, r.at, r.size, out, to);
-                to += r.size;
-                at = r.at + r.size;
-            }
-        }
+    while let Some(r) = next_known(file, at) {
+        copy_record(file, r.kind, r.at, r.size, out, to);
+        to += r.size;
+        at = r.at + r.size;
     }
 }

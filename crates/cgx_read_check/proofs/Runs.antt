@@ -1,8 +1,8 @@
 -- The bytes of the normal form of some records, and of a file. Assumes nothing.
+use Rattle.std.specs.Prelude.{None, Option, Some}
 use mathlib.Core.Path.{◌≡◌, refl, sym, ap, ◌∙◌}
 use mathlib.Core.Bool.{Bool, true}
 use mathlib.Core.List.{List, [], ◌∷◌, ◌++◌, append-nil}
-use mathlib.Core.Option.{Option, none, some}
 use Prim.Native.Nat.{ℕ, ◌+◌, ◌≤◌}
 use native.Mathlib.Omega.{arith}
 use lib.ListN.{length, take, length-append}
@@ -23,9 +23,9 @@ unfolding bytes_of
 length-of r = omega arith
 
 -- a record that breaks no rule has fields of lengths that they may have
-pub fits-of : (s : Bool) (o : Option Kind) (r : Rec) → broken (rules s o r) ≡ none → FitsKind o r
-fits-of s none r e = tt
-fits-of s (some k) r e = (rules-kept s k r e).0
+pub fits-of : (s : Bool) (o : Option Kind) (r : Rec) → broken (rules s o r) ≡ None → FitsKind o r
+fits-of s None r e = tt
+fits-of s (Some k) r e = (rules-kept s k r e).0
 
 -- ---- the normal form of some records
 
@@ -38,15 +38,15 @@ unfolding normal_run known
 run-cons r rs = go (kind_of r.type)
   where
     go : (o : Option Kind) → join bytes_of (normals (if_known o r (known rs))) ≡ join bytes_of (normals (if_known o r [])) ++ join bytes_of (normals (known rs))
-    go none = refl
-    go (some k) = ap (λ (l : List ℕ). l ++ join bytes_of (normals (known rs))) (sym (append-nil (bytes_of (normal_of k r))))
+    go None = refl
+    go (Some k) = ap (λ (l : List ℕ). l ++ join bytes_of (normals (known rs))) (sym (append-nil (bytes_of (normal_of k r))))
 
 -- an unknown record has none, a known one as many bytes as it has
-pub run-unknown : (r : Rec) → kind_of r.type ≡ none → normal_run (r ∷ []) ≡ []
+pub run-unknown : (r : Rec) → kind_of r.type ≡ None → normal_run (r ∷ []) ≡ []
 unfolding normal_run known
 run-unknown r e = ap (λ (o : Option Kind). join bytes_of (normals (if_known o r []))) e
 
-pub run-known : (r : Rec) (k : Kind) → kind_of r.type ≡ some k → normal_run (r ∷ []) ≡ bytes_of (normal_of k r)
+pub run-known : (r : Rec) (k : Kind) → kind_of r.type ≡ Some k → normal_run (r ∷ []) ≡ bytes_of (normal_of k r)
 unfolding normal_run known
 run-known r k e = ap (λ (o : Option Kind). join bytes_of (normals (if_known o r []))) e ∙ append-nil (bytes_of (normal_of k r))
 
@@ -58,12 +58,12 @@ pub run_length : (r : Rec) → Bytes r.body → FitsKind (kind_of r.type) r → 
 run_length r b h = go (kind_of r.type) refl h
   where
     go : (o : Option Kind) → kind_of r.type ≡ o → FitsKind o r → length (normal_run (r ∷ [])) ≡ taken o (size r)
-    go none e w = ap length (run-unknown r e)
-    go (some k) e w = ap length (run-known r k e) ∙ length-of (normal_of k r) ∙ size-normal k r b w
+    go None e w = ap length (run-unknown r e)
+    go (Some k) e w = ap length (run-known r k e) ∙ length-of (normal_of k r) ∙ size-normal k r b w
 
 pub taken-le : (o : Option Kind) (n : ℕ) {w : ℕ} → w ≡ taken o n → w ≤ n
-taken-le none n e = omega arith
-taken-le (some k) n e = omega arith
+taken-le None n e = omega arith
+taken-le (Some k) n e = omega arith
 
 -- ---- a whole file
 

@@ -4,76 +4,46 @@
 ghost use Rattle.std.specs.Prelude.{◌≡◌};
 ghost use Rattle.cgx_spec.specs.Numbers.{Bytes};
 ghost use Rattle.cgx_spec.specs.Files.{verdict_of};
-ghost use Rattle.cgx_format_headers.specs.Headers.{kind_in};
-ghost use Rattle.cgx_read_check.specs.Measure.{measured, measure_of, taken};
+ghost use Rattle.cgx_read_check.specs.Measure.{measure_of, taken};
 
-use cgx_format_headers::{RecordType, opening_fault};
+use cgx_format_headers::check_opening;
 use cgx_format_phases::Phase;
-use cgx_read_judge::{Judged, judge};
-use cgx_spec::Verdict;
-
-// A verdict, with the length of the normal form of a file that is accepted.
-#[derive(Clone, Copy)]
-pub enum Measured {
-    Accepted { length: usize },
-    Refused { number: u8, at: usize },
-}
+use cgx_read_judge::judge;
+use cgx_spec::{FileRefusal, Kind, Verdict};
 
 // The verdict on a file: accepted, or the number and the place of its refusal. (A slice holds bytes, which is what demand 3 asks of a file.)
 pub fn check(file: &[u8]) -> Verdict
     ensures value { result ≡ verdict_of file.now }
     ensures bytes { Bytes file.now }
 {
-    let found = measure(file);
-    match found {
-        Measured::Accepted { length: _ } => Verdict::Accepted,
-        Measured::Refused { number, at } => Verdict::Refused { number, at },
-    }
+    measure(file)?;
+    Ok(())
 }
 
-// The verdict on a file, and the length of its normal form: the first four bytes, and the known records as long as they are.
-pub fn measure(file: &[u8]) -> Measured
+// The length of the normal form of a file that is accepted: the first four bytes, and the known records as long as they are. Else why it is refused.
+// The offset goes on by hand: each record says how far the next one is, and its phase what may follow (no plainer).
+pub fn measure(file: &[u8]) -> Result<usize, FileRefusal>
     ensures { result ≡ measure_of file.now }
 {
-    let number = opening_fault(file);
-    if number != 0 {
-        return Measured::Refused { number, at: 0 };
-    }
+    check_opening(file)?;
     let mut p = Phase::Start;
     let mut at: usize = 4;
     let mut length: usize = 4;
-    loop {
-        let found = judge(file, p, at);
-        match found {
-            Judged::Stop(v) => {
-                return with_length(v, length);
-            }
-            Judged::Go(h, q) => {
-                let t = h.kind;
-                length += taken_by(t, h.size);
-                p = q;
-                at += h.size;
-            }
-        }
+    while let Some(found) = judge(file, p, at)? {
+        let h = found.header;
+        length += taken_by(h.kind, h.size);
+        p = found.phase;
+        at += h.size;
     }
-}
-
-// A verdict with the length of the normal form.
-fn with_length(v: Verdict, length: usize) -> Measured
-    ensures { result ≡ measured v length }
-{
-    match v {
-        Verdict::Accepted => Measured::Accepted { length },
-        Verdict::Refused { number, at } => Measured::Refused { number, at },
-    }
+    Ok(length)
 }
 
 // The bytes that a record takes in the normal form: an unknown one takes none.
-fn taken_by(t: RecordType, size: usize) -> usize
-    ensures { result ≡ taken (kind_in t) size }
+fn taken_by(t: Option<Kind>, size: usize) -> usize
+    ensures { result ≡ taken t size }
 {
     match t {
-        RecordType::Known(_) => size,
-        RecordType::Unknown => 0,
+        Some(_) => size,
+        None => 0,
     }
 }

@@ -1,13 +1,13 @@
 -- A body is its fields by their offsets in the file, where their lengths fit. Assumes nothing.
-use mathlib.Core.Path.{◌≡◌, refl, sym, ap, ap₂, ◌∙◌, subst}
+use mathlib.Core.Path.{◌≡◌, refl, ap, ap₂, ◌∙◌, subst}
 use mathlib.Core.Bool.{Bool}
 use mathlib.Core.List.{List, [], ◌∷◌}
-use Prim.Native.Nat.{ℕ, zero, suc, ◌+◌, ◌-◌, ◌≤◌}
-use native.Mathlib.Nat.{sub-zero}
+use Prim.Native.Nat.{ℕ, ◌+◌, ◌-◌, ◌≤◌}
 use native.Mathlib.Omega.{arith}
 use lib.Dec.{T}
 use lib.ListN.{length, take, drop, length-take, length-drop}
-use lib.Seq.{length-take-le, take-take, take-nil, drop-drop}
+use lib.Seq.{length-take-le, take-take, drop-drop}
+use Rattle.std.proofs.lemmas.List.{drop-take}
 use Rattle.cgx_spec.specs.Fields.{Field, fits, width, Piece, pieces, lengths_fit}
 use Rattle.cgx_spec.proofs.Lists.{every-cons}
 use Rattle.cgx_spec.proofs.Pieces.{full}
@@ -15,12 +15,6 @@ use Rattle.cgx_read_fields.specs.Views.{pieces_at}
 
 room : (x : Field) (b : List ℕ) → T (fits x (length (take (width x (length b)) b))) → width x (length b) ≤ length b
 room x b h = omega (arith, full x b h, length-take (width x (length b)) b)
-
-drop-take : (w n : ℕ) (l : List ℕ) → drop w (take n l) ≡ take (n - w) (drop w l)
-drop-take zero n l = ap (λ (k : ℕ). take k l) (sym (sub-zero n))
-drop-take (suc w) zero l = let q : 0 ≡ 0 - suc w = omega arith in ap (λ (k : ℕ). take k (drop (suc w) l)) q
-drop-take (suc w) (suc n) [] = sym (take-nil (suc n - suc w))
-drop-take (suc w) (suc n) (x ∷ l) = let q : n - w ≡ suc n - suc w = omega arith in drop-take w n l ∙ ap (λ (k : ℕ). take k (drop w l)) q
 
 abbrev fits_in : Piece → Bool
 fits_in p = fits p.field (length p.bytes)
@@ -38,9 +32,10 @@ module _ (f : List ℕ) (at size : ℕ) (inside : at + size ≤ length f) where
 
   rest-drop : (o w : ℕ) → w ≤ size - o → drop w (rest o) ≡ rest (o + w)
   rest-drop o w h =
-      let e : size - o - w ≡ size - (o + w) = omega arith in
+      let n = size - (o + w) in
+      let e : size - o ≡ w + n = omega arith in
       let q : at + o + w ≡ at + (o + w) = omega arith in
-      drop-take w (size - o) (drop (at + o) f) ∙ ap₂ take e (drop-drop w (at + o) f ∙ ap (λ (k : ℕ). drop k f) q)
+      ap (λ (k : ℕ). drop w (take k (drop (at + o) f))) e ∙ drop-take w n (drop (at + o) f) ∙ ap (take n) (drop-drop w (at + o) f ∙ ap (λ (k : ℕ). drop k f) q)
 
   pub cut : (xs : List Field) (o : ℕ) → o ≤ size → T (lengths_fit (pieces xs (rest o))) → pieces xs (rest o) ≡ pieces_at f at size xs o
   unfolding pieces pieces_at lengths_fit

@@ -1,4 +1,5 @@
 -- The values of fields by their offsets in the file, in the parts that code reads. Assumes nothing.
+use Rattle.std.specs.Prelude.{None, Option, Some}
 use mathlib.Core.Path.{◌≡◌, refl, sym, ap, ap₂, ◌∙◌}
 use mathlib.Core.Bool.{true}
 use mathlib.Core.List.{List, [], ◌∷◌, ◌++◌, append-nil}
@@ -14,13 +15,11 @@ use Rattle.cgx_spec.specs.Dates.{date_of}
 use Rattle.cgx_spec.specs.Fields.{real, date, string, optional, Value, missing, exactly, numbers, value}
 use Rattle.cgx_spec.proofs.Promises.{promises}
 use Rattle.numbers.proofs.Parts.{part}
-use Rattle.cgx_format_kinds.specs.declared.Name.{Name}
-use Rattle.cgx_format_kinds.specs.declared.Name.TheVariants.{Absent, Present}
 use Rattle.cgx_format_kinds.specs.declared.Point.{Point}
 use Rattle.cgx_format_kinds.specs.declared.ItemList.{ItemList}
-use Rattle.cgx_format_kinds.specs.declared.Array.TheVariants.{Of}
 use Rattle.cgx_format_kinds.specs.Meant.{one, point_numbers, date_numbers, list_numbers, array_values}
 use Rattle.cgx_read_fields.specs.Views.{NameAt, StringAt, array_if, ArrayIs}
+use Rattle.cgx_format_kinds.specs.declared.TextSpan.{TextSpan}
 
 -- ---- a list of values, one after another
 
@@ -81,7 +80,7 @@ module _ (f : List ℕ) (at : ℕ) where
   -- columns, rows and two points, from byte o of a record on
   pub array-value : (o : ℕ) → at + (o + 24) ≤ length f → {c r : ℤ} {a u : Point} → c ≡ long_of (take 4 (drop (at + o) f)) → r ≡ long_of (take 4 (drop (at + (o + 4)) f))
       → (a.x ≡ long_of (take 4 (drop (at + (o + 8)) f))) × (a.y ≡ long_of (take 4 (drop (at + (o + 8) + 4) f)))
-      → (u.x ≡ long_of (take 4 (drop (at + (o + 16)) f))) × (u.y ≡ long_of (take 4 (drop (at + (o + 16) + 4) f))) → ArrayIs true f at o (Of c r a u)
+      → (u.x ≡ long_of (take 4 (drop (at + (o + 16)) f))) × (u.y ≡ long_of (take 4 (drop (at + (o + 16) + 4) f))) → ArrayIs true f at o (Some (record { cols = c; rows = r; across = a; up = u }))
   unfolding array_values array_if
   array-value o h ec er ea eu vs =
       long-value f (at + o) (omega arith) ec then long-value f (at + (o + 4)) (omega arith) er
@@ -109,6 +108,6 @@ a_name f at len s e = e ∙ go (take len (drop at f)) (let l = s.least in let i 
     go [] h = absurd (omega arith)
     go (x ∷ b) h = refl
 
-pub name_in_lem : (at o size : ℕ) (n : Name) → o ≤ size → NameAt (at + o) (at + o + (size - o)) n → NameAt (at + o) (at + size) n
-name_in_lem at o size Absent l h = tt
-name_in_lem at o size (Present s) l h = (h.0, omega arith)
+pub name_in_lem : (at o size : ℕ) (n : Option TextSpan) → o ≤ size → NameAt (at + o) (at + o + (size - o)) n → NameAt (at + o) (at + size) n
+name_in_lem at o size None l h = tt
+name_in_lem at o size (Some s) l h = (h.0, omega arith)

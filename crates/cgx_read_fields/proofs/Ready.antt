@@ -45,9 +45,9 @@ module _ {k : Kind} {fl : ℕ} {f : List ℕ} {at size : ℕ} (r : Readable k fl
   unfolding rec_at values_at
   meant-at = ap values (sym body-cut)
 
-  -- fields that are read by their offsets are those of its body
-  pub read_as : {j : Kind} {fs : Fields} → k ≡ j → ReadAt j fl f at size fs → (field_values f fs ≡ values (pieces (layout k fl) (rec_at f at size).body)) × ((fields_kind fs ≡ k) × FieldsAt fl f at (at + size) fs)
-  read_as {fs = fs} e d = let q = subst (λ (x : Kind). ReadAt x fl f at size fs) (sym e) d in (q.meant ∙ meant-at, (q.kind-is, q.located))
+  -- fields that are read by their offsets are those of its body, as `fields_of` ensures it
+  pub read_as : {j : Kind} {fs : Fields} → k ≡ j → ReadAt j fl f at size fs → record { result_value : field_values f fs ≡ values (pieces (layout k fl) (rec_at f at size).body); kind : fields_kind fs ≡ k; located : FieldsAt fl f at (at + size) fs }
+  read_as {fs = fs} e d = let q = subst (λ (x : Kind). ReadAt x fl f at size fs) (sym e) d in record { result_value = q.meant ∙ meant-at; kind = q.kind-is; located = q.located }
 
   pub texts-kept : T (keeps 11 (pieces_at f at size (layout k fl) 4))
   unfolding rec_at

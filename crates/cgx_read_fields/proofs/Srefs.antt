@@ -1,4 +1,5 @@
 -- The fields of an SREF by its flags: eight cases, in which each field is where `sref_layout` says. Assumes nothing.
+use Rattle.std.specs.Prelude.{Option}
 use mathlib.Core.Path.{◌≡◌, refl, sym, ap, ◌∙◌, subst}
 use mathlib.Core.Bool.{Bool, true, false, cond}
 use mathlib.Core.List.{List, [], ◌∷◌}
@@ -15,8 +16,7 @@ use Rattle.cgx_spec.specs.Restated.{good_size}
 use Rattle.cgx_spec.proofs.Lists.{and_left}
 use Rattle.cgx_format_kinds.specs.declared.Point.{Point}
 use Rattle.cgx_format_kinds.specs.declared.TextSpan.{TextSpan}
-use Rattle.cgx_format_kinds.specs.declared.OptionalReal.{OptionalReal}
-use Rattle.cgx_format_kinds.specs.declared.Array.{Array}
+use Rattle.cgx_format_kinds.specs.declared.Grid.{Grid}
 use Rattle.cgx_format_kinds.specs.declared.Fields.TheVariants.{Sref}
 use Rattle.cgx_format_kinds.specs.Meant.{span_text, optional_value, array_values, field_values, fields_kind}
 use Rattle.cgx_format_sref.specs.declared.SrefLayout.{SrefLayout}
@@ -24,6 +24,7 @@ use Rattle.cgx_format_sref.specs.Layouts.{magnif_offset, array_offset, name_offs
 use Rattle.cgx_read_fields.specs.Views.{Readable, TextAt, FieldsAt, ReadAt, pieces_at, values_at, StringAt, AnswerAt, real_if, array_if, ArrayIs}
 use Rattle.cgx_read_fields.proofs.Parts.{◌then◌, long-value, second-value}
 use Rattle.cgx_read_fields.proofs.Ready.{sized, texts-kept, string-from}
+use Rattle.cgx_spec.specs.declared.Real.{Real}
 
 abbrev fields_of : Bool → Bool → Bool → List Field
 fields_of a m r = long ∷ long ∷ only_if a real ∷ only_if m positive ∷ only_if r count ∷ only_if r count ∷ only_if r point ∷ only_if r point ∷ string ∷ []
@@ -90,7 +91,7 @@ pub record Room (fl : ℕ) (f : List ℕ) (at size : ℕ) (l : SrefLayout) : Typ
 pub sref-room : (fl : ℕ) (f : List ℕ) (at size : ℕ) {l : SrefLayout} → StringAt f (at + (sref_layout fl).name) (size - (sref_layout fl).name) → (l ≡ sref_layout fl) × Laid l → Room fl f at size l
 sref-room fl f at size s e = record { is = e.0; laid = e.1; name = subst (λ (x : SrefLayout). StringAt f (at + x.name) (size - x.name)) (sym e.0) s }
 
-pub sref-by : {fl : ℕ} {f : List ℕ} {at size : ℕ} {l : SrefLayout} → Room fl f at size l → (p : Point) (a b : OptionalReal) (d : Array) (t : TextSpan)
+pub sref-by : {fl : ℕ} {f : List ℕ} {at size : ℕ} {l : SrefLayout} → Room fl f at size l → (p : Point) (a b : Option Real) (d : Option Grid) (t : TextSpan)
     → (p.x ≡ long_of (take 4 (drop (at + 4) f))) × (p.y ≡ long_of (take 4 (drop (at + 4 + 4) f)))
     → (optional_value a ≡ real_if l.turned f (at + 12)) × AnswerAt f (at + 12) a → (optional_value b ≡ real_if l.scaled f (at + l.magnif)) × AnswerAt f (at + l.magnif) b → ArrayIs l.repeated f at l.array d
     → (span_text f t ≡ value string (take (size - l.name) (drop (at + l.name) f))) × TextAt (at + l.name) (at + l.name + (size - l.name)) t

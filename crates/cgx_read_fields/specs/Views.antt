@@ -1,5 +1,5 @@
 -- What is asked of a record before its fields are read, and its fields by their offsets in the file, as code has them. Definitions only.
-use Rattle.std.specs.Prelude.{◌≡◌, Bool, true, cond, List, [], ◌∷◌, ℕ, ◌+◌, ◌*◌, ◌-◌, ◌≤◌, length, take, drop}
+use Rattle.std.specs.Prelude.{◌≡◌, Bool, true, cond, List, [], ◌∷◌, ℕ, ◌+◌, ◌*◌, ◌-◌, ◌≤◌, length, take, drop, None, Option, Some}
 use Rattle.cgx_spec.specs.declared.Kind.{Kind}
 use Rattle.cgx_spec.specs.declared.Real.{Real}
 use Rattle.cgx_spec.specs.Numbers.{number, longs_of}
@@ -9,12 +9,8 @@ use Rattle.cgx_spec.specs.Fields.{Field, real, absent, Value, missing, numbers, 
 use Rattle.cgx_spec.specs.Kinds.{layout}
 use Rattle.cgx_spec.specs.Walking.{Held, rec_at}
 use Rattle.cgx_format_kinds.specs.declared.TextSpan.{TextSpan}
-use Rattle.cgx_format_kinds.specs.declared.Name.{Name}
-use Rattle.cgx_format_kinds.specs.declared.Name.TheVariants.{Absent, Present}
 use Rattle.cgx_format_kinds.specs.declared.ItemList.{ItemList}
-use Rattle.cgx_format_kinds.specs.declared.OptionalReal.{OptionalReal}
-use Rattle.cgx_format_kinds.specs.declared.OptionalReal.TheVariants.{Missing, Given}
-use Rattle.cgx_format_kinds.specs.declared.Array.{Array}
+use Rattle.cgx_format_kinds.specs.declared.Grid.{Grid}
 use Rattle.cgx_format_kinds.specs.declared.Fields.{Fields}
 use Rattle.cgx_format_kinds.specs.declared.Fields.TheVariants.{Library, Struct, Cprpty, Property, Layer, Box, Poly, Wire, Text, Sref, Endlib}
 use Rattle.cgx_format_sref.specs.Layouts.{sref_layout}
@@ -43,9 +39,9 @@ values_at k fl f at size = values (pieces_at f at size (layout k fl) 4)
 abbrev pub TextAt : ℕ → ℕ → TextSpan → Type 0
 TextAt b e s = (s.at ≡ b) × (s.at + s.len ≤ e)
 
-abbrev pub NameAt : ℕ → ℕ → Name → Type 0
-NameAt b e Absent = Unit {0}
-NameAt b e (Present s) = TextAt b e s
+abbrev pub NameAt : ℕ → ℕ → Option TextSpan → Type 0
+NameAt b e None = Unit {0}
+NameAt b e (Some s) = TextAt b e s
 
 -- Things of u bytes each.
 abbrev pub ListAt : ℕ → ℕ → ℕ → ItemList → Type 0
@@ -58,9 +54,9 @@ word_at f b = number (take 8 (drop b f))
 abbrev pub real_at : List ℕ → ℕ → Real
 real_at f b = answer (word_at f b)
 
-abbrev pub AnswerAt : List ℕ → ℕ → OptionalReal → Type 0
-AnswerAt f b Missing = Unit {0}
-AnswerAt f b (Given r) = r ≡ real_at f b
+abbrev pub AnswerAt : List ℕ → ℕ → Option Real → Type 0
+AnswerAt f b None = Unit {0}
+AnswerAt f b (Some r) = r ≡ real_at f b
 
 -- Of a record with flags fl from byte `at` to e.
 unfoldable pub FieldsAt : ℕ → List ℕ → ℕ → ℕ → Fields → Type 0
@@ -115,5 +111,5 @@ array_if s f at o vs =
     ∷ vs)
     (missing ∷ missing ∷ missing ∷ missing ∷ vs)
 
-abbrev pub ArrayIs : Bool → List ℕ → ℕ → ℕ → Array → Type 0
+abbrev pub ArrayIs : Bool → List ℕ → ℕ → ℕ → Option Grid → Type 0
 ArrayIs s f at o r = (vs : List Value) → array_values r vs ≡ array_if s f at o vs

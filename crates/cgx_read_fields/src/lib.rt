@@ -1,4 +1,4 @@
-// The typed fields of a record, read from the file: one small function a kind, each with the offsets of 01's table.
+// The typed fields of a record, read from the file: one small function a kind, each with the offsets of 01's table, also where two kinds are alike (no plainer).
 // Texts and lists are told by their offsets in the file.
 #![tactic(auto)]
 
@@ -12,8 +12,8 @@ ghost use Rattle.cgx_format_sref.specs.Layouts.{sref_layout};
 ghost use Rattle.cgx_read_fields.specs.Views.{Readable, FieldsAt, ReadAt, ReadAlike, TextAt, NameAt, word_at, real_at, AnswerAt, StringAt, OptionalAt, real_if, ArrayIs};
 
 use cgx_format_kinds::{
-    Array, Boxes, Cprpty, DataType, Date, Fields, ItemList, Layer, LayerNo, Library, Name,
-    OptionalReal, Point, Poly, Property, Sref, Struct, Text, TextSpan, Wire,
+    Boxes, Cprpty, DataType, Date, Fields, Grid, ItemList, Layer, LayerNo, Library, Point, Poly,
+    Property, Sref, Struct, Text, TextSpan, Wire,
 };
 use cgx_format_sref::sref_layout;
 use cgx_spec::{Kind, Real};
@@ -220,14 +220,15 @@ pub fn text_at(f: &[u8], at: usize, len: usize) -> TextSpan
     TextSpan { at, len: n + 1 }
 }
 
-fn name_at(f: &[u8], at: usize, len: usize) -> Name
+fn name_at(f: &[u8], at: usize, len: usize) -> Option<TextSpan>
     requires { OptionalAt f.now at len }
     ensures { (name_text f.now result ≡ value optional (take len (drop at f.now))) × NameAt at (at + len) result }
 {
     if len == 0 {
-        return Name::Absent;
+        None
+    } else {
+        Some(text_at(f, at, len))
     }
-    Name::Present(text_at(f, at, len))
 }
 
 // As many things of `unit` bytes as `len` bytes are.
@@ -242,30 +243,25 @@ fn list_of(first: usize, len: usize, unit: usize) -> ItemList
 }
 
 // ---- fields that an SREF may not have
+// A flag of the record says whether the field is there, and then where it is: only what is read becomes an `Option`.
 
-fn real_if(f: &[u8], at: usize, there: bool) -> OptionalReal
+fn real_if(f: &[u8], at: usize, there: bool) -> Option<Real>
     requires { there ≡ true → at + 8 ≤ length f.now }
     ensures { (optional_value result ≡ real_if there f.now at) × AnswerAt f.now at result }
 {
-    if there {
-        return OptionalReal::Given(real_at(f, at));
-    }
-    OptionalReal::Missing
+    if there { Some(real_at(f, at)) } else { None }
 }
 
-// Its word, or 0 for none.
+// Its word, or 0 for none: a word of a C caller's view, which says so (the C interface), and no `Option`.
 pub fn word_if(f: &[u8], at: usize, there: bool) -> u64
     requires { there ≡ true → at + 8 ≤ length f.now }
     ensures { result ≡ cond there (word_at f.now at) 0 }
 {
-    if there {
-        return word_at(f, at);
-    }
-    0
+    if there { word_at(f, at) } else { 0 }
 }
 
 // From byte o of the record at `at` on.
-fn array_if(f: &[u8], at: usize, o: usize, there: bool) -> Array
+fn array_if(f: &[u8], at: usize, o: usize, there: bool) -> Option<Grid>
     requires { (o ≤ 100) × (there ≡ true → at + (o + 24) ≤ length f.now) }
     ensures { ArrayIs there f.now at o result }
 {
@@ -274,12 +270,13 @@ fn array_if(f: &[u8], at: usize, o: usize, there: bool) -> Array
         let rows = long_at(f, at + (o + 4));
         let across = point_at(f, at + (o + 8));
         let up = point_at(f, at + (o + 16));
-        return Array::Of {
+        Some(Grid {
             cols,
             rows,
             across,
             up,
-        };
+        })
+    } else {
+        None
     }
-    Array::Single
 }

@@ -1,12 +1,10 @@
 -- What a list of boxes or points, and the span of a text, give of a file f, for made-up lists and spans too. Definitions only.
-use Rattle.std.specs.Prelude.{Bool, ◌&&◌, cond, List, [], ℕ, ◌+◌, ◌*◌, ltb, leb, ℤ, length, take, drop}
+use Rattle.std.specs.Prelude.{Bool, ◌&&◌, cond, List, [], ℕ, ◌+◌, ◌*◌, ltb, leb, ℤ, length, take, drop, None, Option, Some}
 use Rattle.cgx_spec.specs.Numbers.{long_of}
 use Rattle.cgx_format_kinds.specs.declared.ItemList.{ItemList}
 use Rattle.cgx_format_kinds.specs.declared.TextSpan.{TextSpan}
-use Rattle.cgx_read_lists.specs.declared.BoxAt.{BoxAt}
-use Rattle.cgx_read_lists.specs.declared.BoxAt.TheVariants.{Outside as no_box, Found as box}
-use Rattle.cgx_read_lists.specs.declared.PointAt.{PointAt}
-use Rattle.cgx_read_lists.specs.declared.PointAt.TheVariants.{Outside as no_point, Found as point}
+use Rattle.cgx_format_kinds.specs.declared.Point.{Point}
+use Rattle.cgx_format_kinds.specs.declared.Sides.{Sides}
 
 abbrev pub long_at : List ℕ → ℕ → ℤ
 long_at f at = long_of (take 4 (drop at f))
@@ -21,16 +19,24 @@ place_of u r i = r.first + u * i
 unfoldable pub item_inside : ℕ → ℕ → ItemList → ℕ → Bool
 item_inside n u r i = ltb i r.count && leb (place_of u r i + u) n
 
--- Left, bottom, right, top.
-unfoldable pub box_of : List ℕ → ItemList → ℕ → BoxAt
+-- Where that begins, if there is one.
+unfoldable pub item_at : ℕ → ℕ → ItemList → ℕ → Option ℕ
+item_at n u r i = cond (item_inside n u r i) (Some (place_of u r i)) None
+
+unfoldable pub box_of : List ℕ → ItemList → ℕ → Option Sides
 box_of f r i =
     cond (item_inside (length f) 16 r i)
-    (box (long_at f (place_of 16 r i)) (long_at f (place_of 16 r i + 4)) (long_at f (place_of 16 r i + 8)) (long_at f (place_of 16 r i + 12)))
-    no_box
+    (Some (record {
+      left = long_at f (place_of 16 r i);
+      bottom = long_at f (place_of 16 r i + 4);
+      right = long_at f (place_of 16 r i + 8);
+      top = long_at f (place_of 16 r i + 12);
+    }))
+    None
 
-unfoldable pub point_of : List ℕ → ItemList → ℕ → PointAt
+unfoldable pub point_of : List ℕ → ItemList → ℕ → Option Point
 point_of f r i =
-    cond (item_inside (length f) 8 r i) (point (record { x = long_at f (place_of 8 r i); y = long_at f (place_of 8 r i + 4) })) no_point
+    cond (item_inside (length f) 8 r i) (Some (record { x = long_at f (place_of 8 r i); y = long_at f (place_of 8 r i + 4) })) None
 
 -- ---- texts
 

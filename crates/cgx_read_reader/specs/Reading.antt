@@ -9,7 +9,7 @@ use Rattle.cgx_read_walk.specs.Walk.{StepMade}
 unfoldable pub left_at : Cursor → Outcome → Cursor
 left_at p (Record v q) = q
 left_at p Done = p
-left_at p (Refused n o q) = p
+left_at p (Refused r q) = p
 
 -- What a step over the file f from the place p promises of its answer r and of the place p' after it.
 pub record Moves (f : List ℕ) (p : Cursor) (r : Outcome) (p' : Cursor) : Type 0 where

@@ -39,7 +39,7 @@ impl<'a> Reader<'a> {
     }
 }
 
-// One step, by a reader made for it.
+// One step, by a reader made for it: public beside `Reader::peek`, as `read_on` beside `Reader::next` (what may not change: both are called by name).
 pub fn read_next(file: &[u8], place: Cursor) -> Outcome
     ensures { StepMade file.now place result }
 {
@@ -84,10 +84,6 @@ fn left_at(place: Cursor, o: Outcome) -> Cursor
     match o {
         Outcome::Record(_, after) => after,
         Outcome::Done => place,
-        Outcome::Refused {
-            number: _,
-            at: _,
-            place: _,
-        } => place,
+        Outcome::Refused(_, _) => place,
     }
 }

@@ -1,7 +1,7 @@
 -- The records of an accepted file from an offset on: the one there, the first known one, the end. Assumes nothing.
+use Rattle.std.specs.Prelude.{None, Option, Some}
 use mathlib.Core.Path.{◌≡◌, refl, sym, ap, ap₂, ◌∙◌, subst}
 use mathlib.Core.List.{List, [], ◌∷◌, ◌++◌}
-use mathlib.Core.Option.{Option, none, some}
 use Prim.Native.Nat.{ℕ, ◌+◌, ◌*◌, ◌/◌, ◌%◌, ◌-◌, ◌≤◌, ◌<◌}
 use native.Mathlib.Nat.{div-add-mod', add-zero}
 use native.Mathlib.Omega.{arith}
@@ -19,13 +19,10 @@ use Rattle.cgx_spec.specs.Walking.{size_at, rec_at, Held}
 use Rattle.cgx_spec.specs.Written.{Sized, place_all}
 use Rattle.cgx_spec.proofs.Chain.{may, then, Chain, file-sound, file-places}
 use Rattle.cgx_format_headers.proofs.Heads.{held-size}
-use Rattle.cgx_format_headers.specs.declared.RecordType.TheVariants.{Known as known_type, Unknown}
 use Rattle.cgx_format_headers.specs.declared.Header.{Header}
-use Rattle.cgx_format_headers.specs.Headers.{kind_in, header_of}
+use Rattle.cgx_format_headers.specs.Headers.{header_of}
 use Rattle.cgx_format_headers.proofs.HeaderLaws.{size-says, kind-says, flags-say}
-use Rattle.cgx_read_sequence.specs.declared.KnownRecord.{KnownRecord}
-use Rattle.cgx_read_sequence.specs.declared.Next.{Next}
-use Rattle.cgx_read_sequence.specs.declared.Next.TheVariants.{Found, End}
+use Rattle.cgx_format_headers.specs.declared.KnownRecord.{KnownRecord}
 use Rattle.cgx_read_sequence.specs.Sequence.{Kept, AllKept, Rest, if_placed, known_places, First, Last, NextIn}
 
 length-of : (r : Rec) → length (bytes_of r) ≡ size r
@@ -147,7 +144,7 @@ Passes f from at = (rs : List Rec) → Rest f from rs → Passed f from at rs
 pub passes_none : (f : List ℕ) (from : ℕ) → Passes f from from
 passes_none f from = λ rs h. record { more = rs; same = refl; places = λ c. refl; rest = h }
 
-pub passes-all : (f : List ℕ) (from at : ℕ) → Passes f from at → length f ≤ at → NextIn f from End
+pub passes-all : (f : List ℕ) (from at : ℕ) → Passes f from at → length f ≤ at → NextIn f from None
 unfolding NextIn known known_places place_all
 passes-all f from at p l =
     λ rs h.
@@ -169,20 +166,20 @@ module _ (f : List ℕ) (from at : ℕ) (i : from ≤ at) (p : Passes f from at)
       ∙ ap (λ (x : Option Kind). if_placed x (record { at = at; context = c; rec = r }) (known_places (place_all (next c at x) (at + size r) t.more))) q
       ∙ ap (λ (n : ℕ). if_placed o (record { at = at; context = c; rec = r }) (known_places (place_all (next c at o) (at + n) t.more))) (held-size f at t.held_in)
 
-  pub passes-unknown : h.kind ≡ Unknown → Passes f from (at + h.size)
+  pub passes-unknown : h.kind ≡ None → Passes f from (at + h.size)
   unfolding known rec_at
   passes-unknown q =
       λ rs g.
       let t = turn f at h.size (p rs g).more (p rs g).rest l (size-says f at e) in
-      let o : kind_of (get_or f (at + 2) 0) ≡ none = sym (kind-says f at e) ∙ ap kind_in q in
-      record { more = t.more; same = (p rs g).same ∙ ap known t.split ∙ ap (λ (x : Option Kind). if_known x (rec_at f at h.size) (known t.more)) o; places = placed_on none o rs g; rest = t.rest }
+      let o : kind_of (get_or f (at + 2) 0) ≡ None = sym (kind-says f at e) ∙ q in
+      record { more = t.more; same = (p rs g).same ∙ ap known t.split ∙ ap (λ (x : Option Kind). if_known x (rec_at f at h.size) (known t.more)) o; places = placed_on None o rs g; rest = t.rest }
 
-  pub passes-known : {k : Kind} → h.kind ≡ known_type k → NextIn f from (Found (record { at = at; size = h.size; kind = k; flags = h.flags }))
+  pub passes-known : {k : Kind} → h.kind ≡ Some k → NextIn f from (Some (record { at = at; size = h.size; kind = k; flags = h.flags }))
   unfolding NextIn known rec_at
   passes-known {k} q =
       λ rs g.
       let t = turn f at h.size (p rs g).more (p rs g).rest l (size-says f at e) in
-      let o : kind_of (get_or f (at + 2) 0) ≡ some k = sym (kind-says f at e) ∙ ap kind_in q in
+      let o : kind_of (get_or f (at + 2) 0) ≡ Some k = sym (kind-says f at e) ∙ q in
       record {
         later = i;
         held = t.held_in;
@@ -192,16 +189,16 @@ module _ (f : List ℕ) (from at : ℕ) (i : from ≤ at) (p : Passes f from at)
         kept = subst (λ (x : Option Kind). Kept x (rec_at f at h.size)) o t.kept;
         more = t.more;
         sequence = (p rs g).same ∙ ap known t.split ∙ ap (λ (x : Option Kind). if_known x (rec_at f at h.size) (known t.more)) o;
-        places = placed_on (some k) o rs g;
+        places = placed_on (Some k) o rs g;
         rest = t.rest;
       }
 
 -- ---- for callers
 
-pub found_first : (f : List ℕ) (from : ℕ) {r : Next} {k : KnownRecord} → NextIn f from r → r ≡ Found k → (rs : List Rec) → Rest f from rs → First f from k rs
+pub found_first : (f : List ℕ) (from : ℕ) {r : Option KnownRecord} {k : KnownRecord} → NextIn f from r → r ≡ Some k → (rs : List Rec) → Rest f from rs → First f from k rs
 unfolding NextIn
 found_first f from j e = subst (NextIn f from) e j
 
-pub found-end : (f : List ℕ) (from : ℕ) {r : Next} → NextIn f from r → r ≡ End → (rs : List Rec) → Rest f from rs → Last from rs
+pub found-end : (f : List ℕ) (from : ℕ) {r : Option KnownRecord} → NextIn f from r → r ≡ None → (rs : List Rec) → Rest f from rs → Last from rs
 unfolding NextIn
 found-end f from j e = subst (NextIn f from) e j

@@ -1,6 +1,5 @@
 -- The rest of an accepted file from an offset on, and the next known record of it. Definitions only.
-use Rattle.std.specs.Prelude.{Bool, List, [], ◌∷◌, ◌≡◌, ℕ, ◌+◌, ◌≤◌, length, drop, get_or}
-use Rattle.std.proofs.Math.Option.{Option, none, some}
+use Rattle.std.specs.Prelude.{Bool, List, [], ◌∷◌, ◌≡◌, ℕ, ◌+◌, ◌≤◌, length, drop, get_or, None, Option, Some}
 use Rattle.cgx_spec.specs.declared.Kind.{Kind}
 use Rattle.cgx_spec.specs.declared.Context.{Context}
 use Rattle.cgx_spec.specs.Fields.{join}
@@ -10,14 +9,12 @@ use Rattle.cgx_spec.specs.Records.{Rec, bytes_of, broken, rules, Placed}
 use Rattle.cgx_spec.specs.Files.{known}
 use Rattle.cgx_spec.specs.Walking.{size_at, rec_at, Held}
 use Rattle.cgx_spec.specs.Written.{Sized, place_all}
-use Rattle.cgx_read_sequence.specs.declared.KnownRecord.{KnownRecord}
-use Rattle.cgx_read_sequence.specs.declared.Next.{Next}
-use Rattle.cgx_read_sequence.specs.declared.Next.TheVariants.{Found, End}
+use Rattle.cgx_format_headers.specs.declared.KnownRecord.{KnownRecord}
 
 -- The record breaks no rule where it is.
 pub record Kept (o : Option Kind) (r : Rec) : Type 0 where
   pub here : Bool
-  pub kept : broken (rules here o r) ≡ none
+  pub kept : broken (rules here o r) ≡ None
 
 abbrev pub AllKept : List Rec → Type 0
 AllKept [] = Unit {0}
@@ -36,8 +33,8 @@ pub record Along (f : List ℕ) (at : ℕ) : Type 0 where
 -- ---- the known records of a file with their offsets and contexts
 
 abbrev pub if_placed : Option Kind → Placed → List Placed → List Placed
-if_placed none p l = l
-if_placed (some k) p l = p ∷ l
+if_placed None p l = l
+if_placed (Some k) p l = p ∷ l
 
 unfoldable pub known_places : List Placed → List Placed
 known_places [] = []
@@ -50,12 +47,12 @@ pub record First (f : List ℕ) (from : ℕ) (k : KnownRecord) (rs : List Rec) :
   pub later : from ≤ k.at
   pub held : Held f k.at k.size
   pub says : size_at f k.at ≡ k.size
-  pub kind-is : kind_of (get_or f (k.at + 2) 0) ≡ some k.kind
+  pub kind-is : kind_of (get_or f (k.at + 2) 0) ≡ Some k.kind
   pub flags-are : k.flags ≡ get_or f (k.at + 3) 0
-  pub kept : Kept (some k.kind) (rec_at f k.at k.size)
+  pub kept : Kept (Some k.kind) (rec_at f k.at k.size)
   pub more : List Rec
   pub sequence : known rs ≡ record { kind = k.kind; rec = rec_at f k.at k.size } ∷ known more
-  pub places : (c : Context) → known_places (place_all c from rs) ≡ record { at = k.at; context = c; rec = rec_at f k.at k.size } ∷ known_places (place_all (next c k.at (some k.kind)) (k.at + k.size) more)
+  pub places : (c : Context) → known_places (place_all c from rs) ≡ record { at = k.at; context = c; rec = rec_at f k.at k.size } ∷ known_places (place_all (next c k.at (Some k.kind)) (k.at + k.size) more)
   pub rest : Rest f (k.at + k.size) more
 
 -- None of them is known.
@@ -63,6 +60,6 @@ pub record Last (from : ℕ) (rs : List Rec) : Type 0 where
   pub sequence : known rs ≡ []
   pub places : (c : Context) → known_places (place_all c from rs) ≡ []
 
-unfoldable pub NextIn : List ℕ → ℕ → Next → Type 0
-NextIn f from (Found k) = (rs : List Rec) → Rest f from rs → First f from k rs
-NextIn f from End = (rs : List Rec) → Rest f from rs → Last from rs
+unfoldable pub NextIn : List ℕ → ℕ → Option KnownRecord → Type 0
+NextIn f from (Some k) = (rs : List Rec) → Rest f from rs → First f from k rs
+NextIn f from None = (rs : List Rec) → Rest f from rs → Last from rs

@@ -4,46 +4,26 @@
 ghost use Rattle.std.specs.Prelude.{◌≡◌};
 ghost use Rattle.cgx_read_sequence.specs.Sequence.{Along, NextIn};
 
-use cgx_format_headers::{RecordType, header_of};
-use cgx_spec::Kind;
-
-// A known record, by its offset and its header.
-#[derive(Clone, Copy)]
-pub struct KnownRecord {
-    pub at: usize,
-    pub size: usize,
-    pub kind: Kind,
-    pub flags: u8,
-}
-
-#[derive(Clone, Copy)]
-pub enum Next {
-    Found(KnownRecord),
-    End,
-}
+use cgx_format_headers::{KnownRecord, header_of};
 
 // The next known record of an accepted file, from an offset on at which a record begins or the file ends. Unknown ones are skipped.
-pub fn next_known(file: &[u8], from: usize) -> Next
+pub fn next_known(file: &[u8], from: usize) -> Option<KnownRecord>
     requires { Along file.now from }
     ensures { NextIn file.now from result }
 {
+    // By offset, since each record tells how far the next one is: no range and no chunks are plainer.
     let mut at = from;
     while at < file.len() {
         let h = header_of(file, at);
-        let size = h.size;
-        let t = h.kind;
-        match t {
-            RecordType::Known(kind) => {
-                return Next::Found(KnownRecord {
-                    at,
-                    size,
-                    kind,
-                    flags: h.flags,
-                });
-            }
-            RecordType::Unknown => {}
+        if let Some(kind) = h.kind {
+            return Some(KnownRecord {
+                at,
+                size: h.size,
+                kind,
+                flags: h.flags,
+            });
         }
-        at += size;
+        at += h.size;
     }
-    Next::End
+    None
 }

@@ -1,8 +1,8 @@
 -- The laws of one step, by the header at its offset and the rules on its record. Assumes nothing.
-use mathlib.Core.Path.{◌≡◌, refl, sym, ap, ◌∙◌}
+use Rattle.std.specs.Prelude.{Err, None, Ok, Option, Result, Some}
+use mathlib.Core.Path.{◌≡◌, refl, sym, ap, ◌∙◌, subst}
 use mathlib.Core.Bool.{Bool, true, false, cond}
 use mathlib.Core.List.{List, [], ◌∷◌}
-use mathlib.Core.Option.{Option, none, some}
 use Prim.Native.Nat.{ℕ, ◌+◌, ◌-◌, ◌≤◌}
 use native.Mathlib.Omega.{arith}
 use lib.Dec.{T, ltb, ltb→lt}
@@ -10,7 +10,7 @@ use lib.ListN.{length, take, drop, get_or, length-drop}
 use lib.Seq.{length-take-le}
 use Rattle.cgx_spec.specs.declared.Kind.{Kind}
 use Rattle.cgx_spec.specs.declared.Context.{Context}
-use Rattle.cgx_spec.specs.declared.Verdict.TheVariants.{Accepted, Refused}
+use Rattle.cgx_spec.specs.Verdicts.{accepted as Accepted, refused as Refused}
 use Rattle.cgx_spec.specs.Fields.{every}
 use Rattle.cgx_spec.specs.Kinds.{kind_of}
 use Rattle.cgx_spec.specs.Order.{allowed}
@@ -18,16 +18,14 @@ use Rattle.cgx_spec.specs.Records.{Rec, Rule, rules, broken, fault_of}
 use Rattle.cgx_spec.specs.Files.{cut, stop, step, judge, settle, finish}
 use Rattle.cgx_spec.specs.Walking.{rec_at, Held}
 use Rattle.cgx_spec.proofs.Lists.{and_left, and_right}
-use Rattle.cgx_format_bodies.specs.Bodies.{Body, number_or0}
+use Rattle.cgx_format_bodies.specs.Bodies.{Body}
 use Rattle.cgx_format_headers.specs.declared.Header.{Header}
-use Rattle.cgx_format_headers.specs.declared.Headed.{Headed}
-use Rattle.cgx_format_headers.specs.declared.Headed.TheVariants.{Bad, Good}
-use Rattle.cgx_format_headers.specs.Headers.{kind_in, cut_meant, HeaderAt, Heads}
+use Rattle.cgx_format_headers.specs.Headers.{cut_meant, HeadIn, HeaderAt, Heads}
 use Rattle.cgx_format_headers.proofs.HeaderLaws.{kind-says, flags-say}
 use Rattle.cgx_format_headers.proofs.Heads.{header-in}
 use Rattle.cgx_format_records.specs.Faults.{rule_fault, FaultIs}
-use Rattle.cgx_read_steps.specs.declared.Stepped.TheVariants.{Stop, Go}
-use Rattle.cgx_read_steps.specs.Steps.{step_meant, Steps}
+use Rattle.cgx_read_steps.specs.Steps.{step_meant, Steps, ends, gives}
+use Rattle.cgx_spec.specs.declared.FileRefusal.{FileRefusal}
 
 -- the body of a record that lies in the file
 pub held-body : (f : List ℕ) (at n : ℕ) → Held f at n → Body (take (at + n - (at + 4)) (drop (at + 4) f))
@@ -39,26 +37,6 @@ held-body f at n h =
     let l = length-take-le (at + n - (at + 4)) (drop (at + 4) f) (omega (arith, length-drop (at + 4) f)) in
     record { even = omega arith; small = omega arith }
 
--- ---- a rule's number
-
-is_some : (o : Option ℕ) (n : ℕ) → n ≡ number_or0 o → (n ≡ 0 → ⊥) → o ≡ some n
-is_some none n e h = absurd (h e)
-is_some (some m) n e h = ap some (sym e)
-
-is_none : (rs : List Rule) → T (every (λ (r : Rule). ltb 0 r.number) rs) → 0 ≡ number_or0 (broken rs) → broken rs ≡ none
-unfolding broken
-is_none [] t e = refl
-is_none (r ∷ rs) t e = go (is_none rs) r.kept e
-  where
-    go : (T (every (λ (x : Rule). ltb 0 x.number) rs) → 0 ≡ number_or0 (broken rs) → broken rs ≡ none) → (k : Bool) → 0 ≡ number_or0 (cond k (broken rs) (some r.number)) → cond k (broken rs) (some r.number) ≡ none
-    go ih true q = ih (and_right (ltb 0 r.number) (every (λ (x : Rule). ltb 0 x.number) rs) t) q
-    go ih false q = absurd (let z = ltb→lt 0 r.number (and_left (ltb 0 r.number) (every (λ (x : Rule). ltb 0 x.number) rs) t) in omega arith)
-
-numbered : (here : Bool) (o : Option Kind) (r : Rec) → T (every (λ (x : Rule). ltb 0 x.number) (rules here o r))
-unfolding rules
-numbered here none r = tt
-numbered here (some k) r = tt
-
 -- ---- one step
 
 module _ (f : List ℕ) (c : Context) (at : ℕ) where
@@ -66,7 +44,7 @@ module _ (f : List ℕ) (c : Context) (at : ℕ) where
   unfolding step
   ended_at e = ap (λ (x : Bool). cond x (stop (finish at (drop at f))) (judge c at (cut (drop at f)))) e
 
-  pub step-done : c.ended ≡ true → at ≡ length f → Steps f c at (Stop Accepted)
+  pub step-done : c.ended ≡ true → at ≡ length f → Steps f c at (ends Accepted)
   unfolding step_meant finish
   step-done e q = record { steps = ended_at e ∙ ap stop (go (drop at f) (length-drop at f)); inside = tt }
     where
@@ -74,7 +52,7 @@ module _ (f : List ℕ) (c : Context) (at : ℕ) where
       go [] z = refl
       go (x ∷ l) z = absurd (omega arith)
 
-  pub step-more : c.ended ≡ true → at ≤ length f → (at ≡ length f → ⊥) → Steps f c at (Stop (Refused 13 at))
+  pub step-more : c.ended ≡ true → at ≤ length f → (at ≡ length f → ⊥) → Steps f c at (ends (Refused 13 at))
   unfolding step_meant finish
   step-more e h q = record { steps = ended_at e ∙ ap stop (go (drop at f) (length-drop at f)); inside = tt }
     where
@@ -82,18 +60,23 @@ module _ (f : List ℕ) (c : Context) (at : ℕ) where
       go [] z = absurd (q (omega arith))
       go (x ∷ l) z = refl
 
-  module _ (r : Headed) (e : c.ended ≡ false) (d : Heads f at r) where
+  module _ (r : Result Header FileRefusal) (e : c.ended ≡ false) (d : Heads f at r) where
     judged : step c at (drop at f) ≡ judge c at (cut_meant f at r)
     unfolding step
     judged = ap (λ (x : Bool). cond x (stop (finish at (drop at f))) (judge c at (cut (drop at f)))) e ∙ ap (judge c at) d.cuts
 
-    pub step-bad : {k : ℕ} → r ≡ Bad k → Steps f c at (Stop (Refused k at))
+    pub step-bad : {k : FileRefusal} → r ≡ Err k → Steps f c at (ends (Err k))
     unfolding step_meant judge cut_meant
-    step-bad q = record { steps = judged ∙ ap (λ (x : Headed). judge c at (cut_meant f at x)) q; inside = tt }
+    step-bad {k} q =
+        let here = (subst (HeadIn f at) q d.inside).1 in
+        record {
+          steps = judged ∙ ap (λ (x : Result Header FileRefusal). judge c at (cut_meant f at x)) q ∙ ap (λ (x : ℕ). stop (Refused k.number x)) (sym here);
+          inside = tt;
+        }
 
     -- by the rules on the record of the header
-    module _ {h : Header} (q : r ≡ Good h) {here : Bool} (a : here ≡ allowed c (kind_in h.kind)) {k : ℕ}
-        (z : FaultIs here (kind_in h.kind) h.flags (take (at + h.size - (at + 4)) (drop (at + 4) f)) k) where
+    module _ {h : Header} (q : r ≡ Ok h) {here : Bool} (a : here ≡ allowed c h.kind) {k : Option ℕ}
+        (z : FaultIs here h.kind h.flags (take (at + h.size - (at + 4)) (drop (at + 4) f)) k) where
       abbrev whole : Rec
       whole = rec_at f at h.size
 
@@ -106,29 +89,29 @@ module _ (f : List ℕ) (c : Context) (at : ℕ) where
       header : HeaderAt f at h
       header = header-in f at d q
 
-      same_number : k ≡ number_or0 fault
+      same_number : k ≡ fault
       unfolding rec_at
       same_number =
           let b : at + h.size - (at + 4) ≡ h.size - 4 = omega arith in
           z (get_or f (at + 2) 0)
-          ∙ ap (λ (x : Bool). rule_fault x (kind_in h.kind) (record { type = get_or f (at + 2) 0; flags = h.flags; body = take (at + h.size - (at + 4)) (drop (at + 4) f) })) a
+          ∙ ap (λ (x : Bool). rule_fault x h.kind (record { type = get_or f (at + 2) 0; flags = h.flags; body = take (at + h.size - (at + 4)) (drop (at + 4) f) })) a
           ∙ ap (λ (o : Option Kind). rule_fault (allowed c o) o (record { type = get_or f (at + 2) 0; flags = h.flags; body = take (at + h.size - (at + 4)) (drop (at + 4) f) })) (kind-says f at header.read)
           ∙ ap (λ (x : ℕ). rule_fault (allowed c kind) kind (record { type = get_or f (at + 2) 0; flags = x; body = take (at + h.size - (at + 4)) (drop (at + 4) f) })) (flags-say f at header.read)
           ∙ ap (λ (x : ℕ). rule_fault (allowed c kind) kind (record { type = get_or f (at + 2) 0; flags = get_or f (at + 3) 0; body = take x (drop (at + 4) f) })) b
 
       settled : step c at (drop at f) ≡ settle c at whole (drop (at + h.size) f) fault
       unfolding judge cut_meant
-      settled = judged ∙ ap (λ (x : Headed). judge c at (cut_meant f at x)) q
+      settled = judged ∙ ap (λ (x : Result Header FileRefusal). judge c at (cut_meant f at x)) q
 
-      pub step-go : k ≡ 0 → Steps f c at (Go h)
+      pub step-go : k ≡ None → Steps f c at (gives h)
       unfolding step_meant settle
       step-go b =
-          let n : fault ≡ none = is_none (rules (allowed c (kind_of whole.type)) (kind_of whole.type) whole) (numbered (allowed c (kind_of whole.type)) (kind_of whole.type) whole) (sym b ∙ same_number) in
+          let n : fault ≡ None = sym same_number ∙ b in
           record {
             steps = settled ∙ ap (settle c at whole (drop (at + h.size) f)) n;
             inside = record { good = record { held = header.held; kept = n }; read = header.read };
           }
 
-      pub step-broken : (k ≡ 0 → ⊥) → Steps f c at (Stop (Refused k at))
+      pub step-broken : {n : ℕ} → k ≡ Some n → Steps f c at (ends (Refused n at))
       unfolding step_meant settle
-      step-broken b = record { steps = settled ∙ ap (settle c at whole (drop (at + h.size) f)) (is_some fault k same_number b); inside = tt }
+      step-broken b = record { steps = settled ∙ ap (settle c at whole (drop (at + h.size) f)) (sym same_number ∙ b); inside = tt }

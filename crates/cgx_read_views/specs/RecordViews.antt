@@ -1,6 +1,5 @@
 -- A good record of a known kind, and what is promised of its view. Definitions only.
-use Rattle.std.specs.Prelude.{cond, List, ◌≡◌, ℕ, ◌+◌, get_or}
-use Rattle.std.proofs.Math.Option.{some}
+use Rattle.std.specs.Prelude.{cond, List, ◌≡◌, ℕ, ◌+◌, get_or, Some}
 use Rattle.cgx_spec.specs.declared.Context.{Context}
 use Rattle.cgx_spec.specs.declared.Kind.{Kind}
 use Rattle.cgx_spec.specs.Kinds.{kind_of}
@@ -15,7 +14,7 @@ use Rattle.cgx_read_steps.specs.Steps.{Good}
 -- A good record of n bytes, of kind k and with flags fl, is at an offset.
 pub record Found (f : List ℕ) (c : Context) (at n : ℕ) (k : Kind) (fl : ℕ) : Type 0 where
   pub good : Good f c at n
-  pub kind-is : kind_of (get_or f (at + 2) 0) ≡ some k
+  pub kind-is : kind_of (get_or f (at + 2) 0) ≡ Some k
   pub flags-is : fl ≡ get_or f (at + 3) 0
 
 -- What is promised of the view of a record of n bytes from byte b of the memory m on, which is byte `at` of the file.

@@ -2,63 +2,48 @@
 #![tactic(auto)]
 
 ghost use Rattle.std.specs.Prelude.{◌≡◌};
-ghost use Rattle.std.proofs.Math.Option.{some};
 ghost use Rattle.cgx_spec.specs.Order.{next};
 ghost use Rattle.cgx_format_cursor.specs.Cursors.{offset_in, run_in, context_in};
 ghost use Rattle.cgx_read_views.specs.RecordViews.{Found, Viewed, taken_by};
 
 use cgx_format_cursor::State;
+use cgx_format_headers::KnownRecord;
 use cgx_format_kinds::View;
 use cgx_read_fields::fields_of;
-use cgx_spec::{Kind, Offset, Run};
+use cgx_spec::{Kind, Run};
 
-// The good record of n bytes whose first is byte `from` of this memory, and byte `at` of the file: texts and lists count from that memory, the view's own
+// The good record r of the file, whose first byte is byte `from` of this memory: texts and lists count from that memory, the view's own
 // offset, its cell, layer and run from the file.
-pub fn view_at(
-    m: &[u8],
-    from: usize,
-    at: usize,
-    n: usize,
-    k: Kind,
-    flags: u8,
-    s: State,
-    after: State,
-) -> View
-    requires { Found m.now (context_in s) from n k flags × (context_in after ≡ next (context_in s) at (some k)) }
-    ensures { Viewed m.now from (context_in s) at n k result }
+pub fn view_at(m: &[u8], from: usize, r: KnownRecord, s: State, after: State) -> View
+    requires { Found m.now (context_in s) from r.size r.kind r.flags × (context_in after ≡ next (context_in s) r.at (Some r.kind)) }
+    ensures { Viewed m.now from (context_in s) r.at r.size r.kind result }
 {
-    let fields = fields_of(m, k, flags, from, n);
+    let fields = fields_of(m, r.kind, r.flags, from, r.size);
     let cell = offset_of(after.cell);
     let layer = offset_of(after.layer);
-    let count = taken(k, s.count);
-    let run = run_of(s.first, count);
+    let run = run_of(s.first, taken(r.kind, s.count));
     View {
-        kind: k,
-        flags,
+        kind: r.kind,
+        flags: r.flags,
         fields,
-        at,
+        at: r.at,
         cell,
         layer,
         run,
     }
 }
 
-fn offset_of(n: usize) -> Offset
+// A state has 0 for none, and a run of none for no run. Functions and no `From`: numbers are no types of this crate.
+fn offset_of(n: usize) -> Option<usize>
     ensures { result ≡ offset_in n }
 {
-    if n == 0 {
-        return Offset::Nowhere;
-    }
-    Offset::At(n)
+    (n != 0).then_some(n)
 }
 
-fn run_of(first: usize, count: usize) -> Run
+fn run_of(first: usize, count: usize) -> Option<Run>
     ensures { result ≡ run_in first count }
 {
-    if count == 0 {
-        return Run::Empty;
-    }
-    Run::Of { first, count }
+    (count != 0).then_some(Run { first, count })
 }
 
 // How many PROPERTY records a record takes, of those that await an object.
@@ -66,16 +51,7 @@ pub fn taken(k: Kind, count: usize) -> usize
     ensures { result ≡ taken_by k count }
 {
     match k {
-        Kind::Library => 0,
-        Kind::Struct => 0,
-        Kind::Cprpty => 0,
-        Kind::Property => 0,
-        Kind::Layer => 0,
-        Kind::Box => count,
-        Kind::Poly => count,
-        Kind::Wire => count,
-        Kind::Text => count,
-        Kind::Sref => count,
-        Kind::Endlib => 0,
+        Kind::Box | Kind::Poly | Kind::Wire | Kind::Text | Kind::Sref => count,
+        _ => 0,
     }
 }

@@ -1,4 +1,5 @@
 -- Demand 2 of the reader's answers, from the theorem on steps of the definitions.
+use Rattle.std.specs.Prelude.{Ok}
 use mathlib.Core.Path.{◌≡◌, refl, sym, ap, ◌∙◌, subst}
 use mathlib.Core.List.{List, ◌++◌}
 use Prim.Native.Nat.{ℕ, zero, suc}
@@ -14,7 +15,6 @@ use Rattle.cgx_format_cursor.specs.Cursors.{place_in, cursor_of}
 use Rattle.cgx_format_cursor.proofs.Laws.{first-in}
 use Rattle.cgx_read_walk.specs.declared.Outcome.{Outcome}
 use Rattle.cgx_read_walk.specs.declared.Outcome.TheVariants.{Record, Done, Refused}
-use Rattle.cgx_read_walk.specs.declared.Started.TheVariants.{Ready}
 use Rattle.cgx_read_walk.specs.Walk.{start_of, answer_meant, StepMade}
 use Rattle.cgx_read_walk.specs.Demand.{given, WalkDemand}
 
@@ -25,10 +25,10 @@ module _ (f : List ℕ) (next : Cursor → Outcome) (h : (p : Cursor) → StepMa
   given_is (suc n) (Record v p) = ap (and_then (view_meant f v)) (given_is n (next p) ∙ ap (reads n f) (h p).means)
   given_is zero Done = refl
   given_is (suc n) Done = refl
-  given_is zero (Refused k o p) = refl
-  given_is (suc n) (Refused k o p) = refl
+  given_is zero (Refused r p) = refl
+  given_is (suc n) (Refused r p) = refl
 
-starts : (bs : List ℕ) → start_of (header ++ bs) ≡ Ready (cursor_of first_place)
+starts : (bs : List ℕ) → start_of (header ++ bs) ≡ Ok (cursor_of first_place)
 unfolding start_of opening
 starts bs = refl
 

@@ -2,169 +2,95 @@
 #![tactic(auto)]
 
 ghost use Rattle.std.specs.Prelude.{◌≡◌, List, ℕ};
-ghost use Rattle.cgx_spec.specs.Walking.{ending};
 ghost use Rattle.cgx_format_cursor.specs.Cursors.{context_in};
 ghost use Rattle.cgx_read_walk.specs.Walk.{start_of, answer_meant, Left, Located, StepMade, answer_from, Reached, SoughtIs};
 
 use cgx_format_cursor::{Cursor, allows, is_forged, next_state};
-use cgx_format_headers::{Headed, RecordType, header_at, opening_fault};
+use cgx_format_headers::{KnownRecord, check_opening, header_at};
 use cgx_format_kinds::View;
 use cgx_format_records::record_fault;
 use cgx_read_views::view_at;
-use cgx_spec::{Kind, Offset, Verdict};
+use cgx_spec::{Fault, FileRefusal, Kind, Refusal};
 
-// What starting a walk answers.
-#[derive(Clone, Copy)]
-pub enum Started {
-    Ready(Cursor),
-    // 1 or 2, at 0.
-    Refused { number: u8, at: usize },
-}
-
-// What one step answers.
+// What one step answers: the three answers that the papers name, which a `Result` of an `Option` would not make plainer.
 #[derive(Clone, Copy)]
 pub enum Outcome {
     // The next known record, and the place after it.
     Record(View, Cursor),
     Done,
-    // The number, the place that it names, and the place that the step was given.
-    Refused {
-        number: u8,
-        at: Offset,
-        place: Cursor,
-    },
+    // The refusal, and the place that the step was given.
+    Refused(Refusal, Cursor),
 }
 
-pub fn start(file: &[u8]) -> Started
+// The place of a walk's first step; else refusal 1 or 2, at 0.
+pub fn start(file: &[u8]) -> Result<Cursor, FileRefusal>
     ensures { result ≡ start_of file.now }
 {
-    let number = opening_fault(file);
-    if number == 0 {
-        return Started::Ready(Cursor::start());
-    }
-    Started::Refused { number, at: 0 }
+    check_opening(file)?;
+    Ok(Cursor::start())
 }
 
 // One step: unknown records are skipped, and a refusal after them names the bad record.
 pub fn step(file: &[u8], place: Cursor) -> Outcome
     ensures { StepMade file.now place result }
 {
-    let sought = seek(file, place);
-    match sought {
-        Sought::Forged => Outcome::Refused {
-            number: 16,
-            at: Offset::Nowhere,
-            place,
-        },
-        Sought::Ended(v) => ended(v, place),
-        Sought::Known {
-            at,
-            size,
-            kind,
-            flags,
-        } => known(file, place, at, size, kind, flags),
+    match seek(file, place) {
+        Ok(Some(r)) => known(file, place, r),
+        Ok(None) => Outcome::Done,
+        Err(refusal) => Outcome::Refused(refusal, place),
     }
 }
 
-// ---- the next known record
-
-// What a step comes to before it judges a known record.
-#[derive(Clone, Copy)]
-pub enum Sought {
-    // Refusal 16.
-    Forged,
-    Ended(Verdict),
-    // A record of a known kind that lies in the file.
-    Known {
-        at: usize,
-        size: usize,
-        kind: Kind,
-        flags: u8,
-    },
-}
-
-pub fn seek(file: &[u8], place: Cursor) -> Sought
+// What a step comes to before it judges a known record: that record, none at the end of a good file, or a refusal.
+pub fn seek(file: &[u8], place: Cursor) -> Result<Option<KnownRecord>, Refusal>
     ensures { SoughtIs file.now place result }
 {
     if is_forged(file.len(), place) {
-        return Sought::Forged;
+        return Err(Fault::NoSuch.nowhere());
     }
     let s = place.state;
     let mut at = place.at;
     if s.ended {
         if at == file.len() {
-            return Sought::Ended(Verdict::Accepted);
+            return Ok(None);
         }
-        return Sought::Ended(Verdict::Refused { number: 13, at });
+        return Err(Refusal::from(Fault::Trailing.at(at)));
     }
+    // By offset, since each record tells how far the next one is: no range and no chunks are plainer.
     loop {
-        let found = header_at(file, at);
-        match found {
-            Headed::Bad(number) => {
-                return Sought::Ended(Verdict::Refused { number, at });
-            }
-            Headed::Good(h) => {
-                let n = h.size;
-                let t = h.kind;
-                let flags = h.flags;
-                match t {
-                    RecordType::Known(k) => {
-                        return Sought::Known {
-                            at,
-                            size: n,
-                            kind: k,
-                            flags,
-                        };
-                    }
-                    RecordType::Unknown => {}
-                }
-                if !s.library {
-                    return Sought::Ended(Verdict::Refused { number: 6, at });
-                }
-                at += n;
-            }
+        let h = header_at(file, at)?;
+        if let Some(kind) = h.kind {
+            return Ok(Some(KnownRecord {
+                at,
+                size: h.size,
+                kind,
+                flags: h.flags,
+            }));
         }
+        if !s.library {
+            return Err(Refusal::from(Fault::Order.at(at)));
+        }
+        at += h.size;
     }
 }
 
-// ---- the answer
-
-// The end of a walk: done, or refused at the place of the refusal.
-fn ended(v: Verdict, place: Cursor) -> Outcome
-    ensures { ((f : List ℕ) → (answer_meant f result ≡ ending v) × Located f result) × Left place result }
-{
-    match v {
-        Verdict::Accepted => Outcome::Done,
-        Verdict::Refused { number, at } => Outcome::Refused {
-            number,
-            at: Offset::At(at),
-            place,
-        },
-    }
-}
-
-// The record of n bytes and kind k at an offset, and the place after it; or the first of the rules 6 to 12 that it breaks.
-fn known(file: &[u8], place: Cursor, at: usize, n: usize, k: Kind, flags: u8) -> Outcome
-    requires { Reached file.now place.state at n k flags }
-    ensures { (answer_meant file.now result ≡ answer_from file.now (context_in place.state) at) × Left place result × Located file.now result }
+// A known record's view, and the place after it; or the first of the rules 6 to 12 that it breaks.
+fn known(file: &[u8], place: Cursor, r: KnownRecord) -> Outcome
+    requires { Reached file.now place.state r }
+    ensures { (answer_meant file.now result ≡ answer_from file.now (context_in place.state) r.at) × Left place result × Located file.now result }
 {
     let s = place.state;
-    let from = at + Kind::HEADER_SIZE;
-    let to = at + n;
-    let number = record_fault(allows(s, k), RecordType::Known(k), flags, &file[from..to]);
-    if number != 0 {
-        return Outcome::Refused {
-            number,
-            at: Offset::At(at),
-            place,
-        };
+    let from = r.at + Kind::HEADER_SIZE;
+    let to = r.at + r.size;
+    if let Err(fault) = record_fault(allows(s, r.kind), Some(r.kind), r.flags, &file[from..to]) {
+        return Outcome::Refused(Refusal::from(fault.at(r.at)), place);
     }
-    let after = next_state(s, at, k);
-    let v = view_at(file, at, at, n, k, flags, s, after);
+    let after = next_state(s, r.at, r.kind);
+    let v = view_at(file, r.at, r, s, after);
     Outcome::Record(
         v,
         Cursor {
-            at: at + n,
+            at: r.at + r.size,
             state: after,
         },
     )

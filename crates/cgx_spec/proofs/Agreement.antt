@@ -1,18 +1,17 @@
 -- The definitions agree with 01 stated a second time (`Restated`): types, sizes, flags, strings, contexts, and the meaning of the k-th records.
+use Rattle.std.specs.Prelude.{None, Option, Some, slice_get}
 use mathlib.Core.Path.{◌≡◌, refl, sym, ap, ap₂, ◌∙◌, subst}
 use mathlib.Core.Logic.{◌↔◌}
 use mathlib.Core.Bool.{Bool, true, false, ◌&&◌, cond}
 use mathlib.Core.List.{List, [], ◌∷◌, ◌++◌}
-use mathlib.Core.Option.{Option, none, some}
 use Prim.Native.Nat.{ℕ, zero, suc, ◌+◌, ◌*◌, ◌%◌, ◌<◌}
 use native.Mathlib.Numerals.{add-one}
 use native.Mathlib.Omega.{arith}
 use lib.Dec.{T, leb, eqb, eqb→eq, le→leb}
-use lib.ListN.{length, get_elem?}
+use lib.ListN.{length}
 use Rattle.cgx_spec.specs.declared.Kind.{Kind}
 use Rattle.cgx_spec.specs.declared.Kind.TheVariants.{Library, Struct, Cprpty, Property, Layer, Box, Poly, Wire, Text, Sref, Endlib}
 use Rattle.cgx_spec.specs.declared.Run.{Run}
-use Rattle.cgx_spec.specs.declared.Run.TheVariants.{Of}
 use Rattle.cgx_spec.specs.declared.Context.{Context}
 use Rattle.cgx_spec.specs.Strings.{text_of, padded, same, good_string}
 use Rattle.cgx_spec.specs.Kinds.{kind_of, type_for, orientation, text_flags, meant, good_flags, flags_of}
@@ -28,7 +27,7 @@ use Rattle.cgx_spec.proofs.Steps.{StepAt, step-at}
 
 -- ---- types
 
-pub kind-for : (k : Kind) → kind_of (type_for k) ≡ some k
+pub kind-for : (k : Kind) → kind_of (type_for k) ≡ Some k
 unfolding kind_of
 kind-for Library = refl
 kind-for Struct = refl
@@ -56,7 +55,7 @@ types-written Text = refl
 types-written Sref = refl
 types-written Endlib = refl
 
-types : (k : Kind) → kind_of (type_byte k) ≡ some k
+types : (k : Kind) → kind_of (type_byte k) ≡ Some k
 types k = ap kind_of (sym (types-written k)) ∙ kind-for k
 
 -- ---- flags
@@ -210,26 +209,26 @@ texts b t s = ap text_of s.is ∙ text-before t s.no_zero (zeros_after t) (zeros
 run-longer : (bs : List RecordBefore) (b : RecordBefore) → longer (run_before bs) b.at ≡ run_before (b ∷ bs)
 unfolding run_before farthest
 run-longer [] b = refl
-run-longer (c ∷ bs) b = ap (λ (n : ℕ). Of (farthest c bs) n) (add-one (suc (length bs)))
+run-longer (c ∷ bs) b = ap (λ (n : ℕ). Some (record { first = farthest c bs; count = n })) (add-one (suc (length bs)))
 
 -- what follows from a record is what looking back at it says
 abbrev pub onto : Option Kind → ℕ → List RecordBefore → List RecordBefore
-onto o at bs = elim o [ none ↦ bs | some k ↦ record { kind = k; at = at } ∷ bs ]
+onto o at bs = elim o [ None ↦ bs | Some k ↦ record { kind = k; at = at } ∷ bs ]
 
 pub next-looks : (o : Option Kind) (at : ℕ) (bs : List RecordBefore) → next (look_back bs) at o ≡ look_back (onto o at bs)
 unfolding look_back type_byte library_before cell_before layer_before struct_before properties_before end_before run_before
-next-looks none at bs = refl
-next-looks (some Library) at bs = refl
-next-looks (some Struct) at bs = refl
-next-looks (some Cprpty) at bs = refl
-next-looks (some Property) at bs = ap (λ (r : Run). record { library = library_before bs; cell = cell_before bs; layer = layer_before bs; fresh = false; run = r; ended = false }) (run-longer (properties_before bs) (record { kind = Property; at = at }))
-next-looks (some Layer) at bs = refl
-next-looks (some Box) at bs = refl
-next-looks (some Poly) at bs = refl
-next-looks (some Wire) at bs = refl
-next-looks (some Text) at bs = refl
-next-looks (some Sref) at bs = refl
-next-looks (some Endlib) at bs = refl
+next-looks None at bs = refl
+next-looks (Some Library) at bs = refl
+next-looks (Some Struct) at bs = refl
+next-looks (Some Cprpty) at bs = refl
+next-looks (Some Property) at bs = ap (λ (r : Option Run). record { library = library_before bs; cell = cell_before bs; layer = layer_before bs; fresh = false; run = r; ended = false }) (run-longer (properties_before bs) (record { kind = Property; at = at }))
+next-looks (Some Layer) at bs = refl
+next-looks (Some Box) at bs = refl
+next-looks (Some Poly) at bs = refl
+next-looks (Some Wire) at bs = refl
+next-looks (Some Text) at bs = refl
+next-looks (Some Sref) at bs = refl
+next-looks (Some Endlib) at bs = refl
 
 walk_looks : (k : ℕ) (rest : List ℕ) (c : Context) (at : ℕ) (st : Step) → StepAt rest c at st → (bs : List RecordBefore) → c ≡ look_back bs → LooksBack bs (walk k st).records
 unfolding walk context_after
@@ -266,20 +265,20 @@ contexts (a ∷ b ∷ c ∷ l ∷ bs) = go (eqb a 99 && eqb b 103 && eqb c 120) 
 -- ---- the k-th records
 
 module _ {A : Type 0} where
-  ends : (x : A) → none ≡ some x → ⊥
+  ends : (x : A) → None ≡ Some x → ⊥
   ends x e = let z : ◌≡◌ {A = ℕ} 0 1 = cc in omega arith
 
-  each_same : (xs ys : List A) → ((k : ℕ) → get_elem? xs k ≡ get_elem? ys k) → xs ≡ ys
+  each_same : (xs ys : List A) → ((k : ℕ) → slice_get xs k ≡ slice_get ys k) → xs ≡ ys
   each_same [] [] h = refl
   each_same [] (y ∷ ys) h = absurd (ends y (h 0))
   each_same (x ∷ xs) [] h = absurd (ends x (sym (h 0)))
   each_same (x ∷ xs) (y ∷ ys) h =
-      let e : some x ≡ some y = h 0 in
+      let e : Some x ≡ Some y = h 0 in
       let p : x ≡ y = cc in
       ap₂ ◌∷◌ p (each_same xs ys (λ k. h (suc k)))
 
-  each : (xs ys : List A) → (xs ≡ ys) ↔ ((length xs ≡ length ys) × ((k : ℕ) → get_elem? xs k ≡ get_elem? ys k))
-  each xs ys = ((λ e. (ap length e, λ k. ap (λ (l : List A). get_elem? l k) e)), (λ h. each_same xs ys h.1))
+  each : (xs ys : List A) → (xs ≡ ys) ↔ ((length xs ≡ length ys) × ((k : ℕ) → slice_get xs k ≡ slice_get ys k))
+  each xs ys = ((λ e. (ap length e, λ k. ap (λ (l : List A). slice_get l k) e)), (λ h. each_same xs ys h.1))
 
 pub agreement : Agreement
 agreement =

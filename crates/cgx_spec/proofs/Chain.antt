@@ -1,8 +1,8 @@
 -- A file is accepted exactly when it is `cgx`, 0 and the bytes of records that are good one after another.
+use Rattle.std.specs.Prelude.{None, Option, Some}
 use mathlib.Core.Path.{◌≡◌, refl, sym, ap, ap₂, ◌∙◌, subst}
 use mathlib.Core.Bool.{Bool, true, false, not, ◌&&◌, ◌||◌, cond}
 use mathlib.Core.List.{List, [], ◌∷◌, ◌++◌, map}
-use mathlib.Core.Option.{Option, none, some}
 use Prim.Native.Nat.{ℕ, zero, suc, ◌+◌, ◌*◌, ◌/◌, ◌%◌, ◌-◌, ◌≤◌, ◌<◌}
 use native.Mathlib.Nat.{zero-lt-suc, div-add-mod'}
 use native.Mathlib.Omega.{arith}
@@ -12,11 +12,10 @@ use lib.Seq.{length-take-le, take_at, drop_at}
 use Rattle.cgx_spec.specs.declared.Kind.{Kind}
 use Rattle.cgx_spec.specs.declared.Kind.TheVariants.{Library, Struct, Cprpty, Property, Layer, Box, Poly, Wire, Text, Sref, Endlib}
 use Rattle.cgx_spec.specs.declared.Run.{Run}
-use Rattle.cgx_spec.specs.declared.Run.TheVariants.{Empty, Of}
 use Rattle.cgx_spec.specs.declared.Context.{Context}
 use Rattle.cgx_spec.specs.declared.Need.{Need}
 use Rattle.cgx_spec.specs.declared.Need.TheVariants.{LibraryBefore, NoLibraryBefore, OpenCell, LayerInForce, NoneAwaiting, OnlyCprpty}
-use Rattle.cgx_spec.specs.declared.Verdict.TheVariants.{Accepted as accepted, Refused as refused}
+use Rattle.cgx_spec.specs.Verdicts.{accepted, refused}
 use Rattle.cgx_spec.specs.Numbers.{Bytes}
 use Rattle.cgx_spec.specs.Fields.{every, join}
 use Rattle.cgx_spec.specs.Kinds.{kind_of, count}
@@ -99,18 +98,18 @@ abbrev object : OrderFacts → OrderFacts
 object s = record { library = s.library; cell = s.cell; layer = s.layer; fresh = false; waiting = false; ended = false }
 
 unfoldable pub then : OrderFacts → Option Kind → OrderFacts
-then s none = s
-then s (some Library) = record { library = true; cell = false; layer = false; fresh = false; waiting = false; ended = false }
-then s (some Struct) = record { library = s.library; cell = true; layer = false; fresh = true; waiting = false; ended = false }
-then s (some Cprpty) = record { library = s.library; cell = s.cell; layer = s.layer; fresh = s.fresh; waiting = false; ended = false }
-then s (some Property) = record { library = s.library; cell = s.cell; layer = s.layer; fresh = false; waiting = true; ended = false }
-then s (some Layer) = record { library = s.library; cell = s.cell; layer = true; fresh = false; waiting = false; ended = false }
-then s (some Box) = object s
-then s (some Poly) = object s
-then s (some Wire) = object s
-then s (some Text) = object s
-then s (some Sref) = object s
-then s (some Endlib) = record { library = s.library; cell = s.cell; layer = s.layer; fresh = false; waiting = false; ended = true }
+then s None = s
+then s (Some Library) = record { library = true; cell = false; layer = false; fresh = false; waiting = false; ended = false }
+then s (Some Struct) = record { library = s.library; cell = true; layer = false; fresh = true; waiting = false; ended = false }
+then s (Some Cprpty) = record { library = s.library; cell = s.cell; layer = s.layer; fresh = s.fresh; waiting = false; ended = false }
+then s (Some Property) = record { library = s.library; cell = s.cell; layer = s.layer; fresh = false; waiting = true; ended = false }
+then s (Some Layer) = record { library = s.library; cell = s.cell; layer = true; fresh = false; waiting = false; ended = false }
+then s (Some Box) = object s
+then s (Some Poly) = object s
+then s (Some Wire) = object s
+then s (Some Text) = object s
+then s (Some Sref) = object s
+then s (Some Endlib) = record { library = s.library; cell = s.cell; layer = s.layer; fresh = false; waiting = false; ended = true }
 
 met-is : (c : Context) (n : Need) → met c n ≡ holds (facts_of c) n
 met-is c LibraryBefore = refl
@@ -128,25 +127,25 @@ may-is c o = each (needs_of o)
     each [] = refl
     each (n ∷ ns) = ap₂ ◌&&◌ (met-is c n) (each ns)
 
-waits-on : (r : Run) (at : ℕ) → awaiting (longer r at) ≡ true
-waits-on Empty at = refl
-waits-on (Of first count) at = refl
+waits-on : (r : Option Run) (at : ℕ) → awaiting (longer r at) ≡ true
+waits-on None at = refl
+waits-on (Some r) at = refl
 
 pub then_is : (c : Context) (at : ℕ) (o : Option Kind) → facts_of (next c at o) ≡ then (facts_of c) o
 unfolding then
-then_is c at none = refl
-then_is c at (some Library) = refl
-then_is c at (some Struct) = refl
-then_is c at (some Cprpty) = refl
-then_is c at (some Property) =
+then_is c at None = refl
+then_is c at (Some Library) = refl
+then_is c at (Some Struct) = refl
+then_is c at (Some Cprpty) = refl
+then_is c at (Some Property) =
     λ i. record { library = c.library; cell = present c.cell; layer = present c.layer; fresh = false; waiting = waits-on c.run at i; ended = false }
-then_is c at (some Layer) = refl
-then_is c at (some Box) = refl
-then_is c at (some Poly) = refl
-then_is c at (some Wire) = refl
-then_is c at (some Text) = refl
-then_is c at (some Sref) = refl
-then_is c at (some Endlib) = refl
+then_is c at (Some Layer) = refl
+then_is c at (Some Box) = refl
+then_is c at (Some Poly) = refl
+then_is c at (Some Wire) = refl
+then_is c at (Some Text) = refl
+then_is c at (Some Sref) = refl
+then_is c at (Some Endlib) = refl
 
 -- the first rule that a record breaks, by the facts before it
 abbrev pub fault : OrderFacts → Rec → Option ℕ
@@ -155,12 +154,12 @@ fault s r = broken (rules (may s (kind_of r.type)) (kind_of r.type) r)
 -- the records are good from some facts on, and the last of them is ENDLIB
 abbrev pub Chain : OrderFacts → List Rec → Type 0
 Chain s [] = s.ended ≡ true
-Chain s (r ∷ rs) = (s.ended ≡ false) × Sized r × (fault s r ≡ none) × Chain (then s (kind_of r.type)) rs
+Chain s (r ∷ rs) = (s.ended ≡ false) × Sized r × (fault s r ≡ None) × Chain (then s (kind_of r.type)) rs
 
 abbrev pub placed : Context → ℕ → Rec → Placed
 placed c at r = record { at = at; context = c; rec = r }
 
-pub step_of : (c : Context) (at : ℕ) (r : Rec) (bs : List ℕ) → c.ended ≡ false → Sized r → fault (facts_of c) r ≡ none → step c at (bytes_of r ++ bs) ≡ go (placed c at r) bs
+pub step_of : (c : Context) (at : ℕ) (r : Rec) (bs : List ℕ) → c.ended ≡ false → Sized r → fault (facts_of c) r ≡ None → step c at (bytes_of r ++ bs) ≡ go (placed c at r) bs
 unfolding step judge settle
 step_of c at r bs e h b =
     let x = bytes_of r ++ bs in
@@ -174,16 +173,16 @@ step_end c at e = ap (λ (z : Bool). cond z (stop (finish at [])) (judge c at (c
 abbrev StepSound : Context → List ℕ → Step → Type 0
 StepSound c bs (stop v) = v ≡ accepted → (bs ≡ []) × (c.ended ≡ true)
 StepSound c bs (go p rest) =
-    (bs ≡ bytes_of p.rec ++ rest) × (c.ended ≡ false) × Sized p.rec × (fault (facts_of c) p.rec ≡ none) × (p.context ≡ c) × Bytes rest
+    (bs ≡ bytes_of p.rec ++ rest) × (c.ended ≡ false) × Sized p.rec × (fault (facts_of c) p.rec ≡ None) × (p.context ≡ c) × Bytes rest
 
 step-sound : (c : Context) (at : ℕ) (bs : List ℕ) → Bytes bs → StepSound c bs (step c at bs)
 unfolding step settle judge finish
 step-sound c at bs h = one c.ended refl
   where
     three : (r : Rec) (rest : List ℕ) → CutSound bs (found r rest) → c.ended ≡ false → (o : Option ℕ) → fault_of c r ≡ o → StepSound c bs (settle c at r rest o)
-    three r rest x e none b =
+    three r rest x e None b =
         (x.0, e, x.1, ap (λ (m : Bool). broken (rules m (kind_of r.type) r)) (sym (may-is c (kind_of r.type))) ∙ b, refl, x.2)
-    three r rest x e (some n) b = λ v. absurd (let z : ◌≡◌ {A = ℕ} 0 1 = cc in omega arith)
+    three r rest x e (Some n) b = λ v. absurd (let z : ◌≡◌ {A = ℕ} 0 1 = cc in omega arith)
 
     two : (x : Cut) → CutSound bs x → c.ended ≡ false → StepSound c bs (judge c at x)
     two (bad n) x e = λ v. absurd (let z : ◌≡◌ {A = ℕ} 0 1 = cc in omega arith)

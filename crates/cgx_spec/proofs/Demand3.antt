@@ -1,12 +1,12 @@
 -- Demand 3, of the definitions.
+use Rattle.std.specs.Prelude.{None, Option, Some, slice_get}
 use mathlib.Core.Path.{◌≡◌, refl, sym, ap, ap₂, ◌∙◌, subst}
 use mathlib.Core.Logic.{◌↔◌}
 use mathlib.Core.Bool.{Bool, true, false, ◌&&◌, cond}
 use mathlib.Core.List.{List, [], ◌∷◌, ◌++◌, map, head-eq_of_cons-eq, tail-eq_of_cons-eq}
-use mathlib.Core.Option.{Option, none, some}
 use Prim.Native.Nat.{ℕ, zero, suc, ◌≤◌, ◌<◌}
 use native.Mathlib.Omega.{arith}
-use lib.ListN.{length, take, get_elem?}
+use lib.ListN.{length, take}
 use Rattle.cgx_spec.specs.declared.Kind.{Kind}
 use Rattle.cgx_spec.specs.declared.Kind.TheVariants.{Library, Struct, Cprpty, Property, Layer, Box, Poly, Wire, Text, Sref, Endlib}
 use Rattle.cgx_spec.specs.Numbers.{Bytes}
@@ -28,7 +28,7 @@ first = facts_of start
 -- ---- the known records of a good chain
 
 pub record Good (n : Known) : Type 0 where
-  pub kind-is : kind_of n.rec.type ≡ some n.kind
+  pub kind-is : kind_of n.rec.type ≡ Some n.kind
   pub flags-small : n.rec.flags < 256
   pub sound : Sound (pieces_of n.kind n.rec)
 
@@ -41,9 +41,9 @@ unfolding known
 chain-good [] s c = tt
 chain-good (r ∷ rs) s c = go (kind_of r.type) refl c.2 (chain-good rs (then s (kind_of r.type)) c.3)
   where
-    go : (o : Option Kind) → kind_of r.type ≡ o → broken (rules (may s o) o r) ≡ none → AllGood (known rs) → AllGood (if_known o r (known rs))
-    go none e b h = h
-    go (some k) e b h = (record { kind-is = e; flags-small = c.1.flags-byte; sound = keeps-rules (may s (some k)) k r c.1.body_bytes b }, h)
+    go : (o : Option Kind) → kind_of r.type ≡ o → broken (rules (may s o) o r) ≡ None → AllGood (known rs) → AllGood (if_known o r (known rs))
+    go None e b h = h
+    go (Some k) e b h = (record { kind-is = e; flags-small = c.1.flags-byte; sound = keeps-rules (may s (Some k)) k r c.1.body_bytes b }, h)
 
 abbrev normal_known : Known → Known
 normal_known n = record { kind = n.kind; rec = normal_of n.kind n.rec }
@@ -67,14 +67,14 @@ unfolding known
 chain-normal [] s c = c
 chain-normal (r ∷ rs) s c = go (kind_of r.type) refl c.2 (chain-normal rs (then s (kind_of r.type)) c.3)
   where
-    go : (o : Option Kind) → kind_of r.type ≡ o → broken (rules (may s o) o r) ≡ none → Chain (then s o) (normals (known rs)) → Chain s (normals (if_known o r (known rs)))
-    go none e b h = unfold then in h
-    go (some k) e b h =
-        let e' : kind_of (normal_of k r).type ≡ some k = unfold normal_of in e in
-        let f = sound-fit (pieces_of k r) (keeps-rules (may s (some k)) k r c.1.body_bytes b) in (
+    go : (o : Option Kind) → kind_of r.type ≡ o → broken (rules (may s o) o r) ≡ None → Chain (then s o) (normals (known rs)) → Chain s (normals (if_known o r (known rs)))
+    go None e b h = unfold then in h
+    go (Some k) e b h =
+        let e' : kind_of (normal_of k r).type ≡ Some k = unfold normal_of in e in
+        let f = sound-fit (pieces_of k r) (keeps-rules (may s (Some k)) k r c.1.body_bytes b) in (
           c.0,
           sized-normal k r f c.1,
-          subst (λ (o : Option Kind). broken (rules (may s o) o (normal_of k r)) ≡ none) (sym e') (ap broken (rules-normal k r f (may s (some k))) ∙ b),
+          subst (λ (o : Option Kind). broken (rules (may s o) o (normal_of k r)) ≡ None) (sym e') (ap broken (rules-normal k r f (may s (Some k))) ∙ b),
           subst (λ (o : Option Kind). Chain (then s o) (normals (known rs))) (sym e') h,
         )
 
@@ -146,12 +146,12 @@ normal_form-again f h a =
 
 -- ---- unknown records added
 
-beyond : (l : List Kind) (t : ℕ) → length l ≤ t → get_elem? l t ≡ none
+beyond : (l : List Kind) (t : ℕ) → length l ≤ t → slice_get l t ≡ None
 beyond [] t h = refl
 beyond (k ∷ l) zero h = absurd (omega arith)
 beyond (k ∷ l) (suc t) h = beyond l t (omega arith)
 
-pub unknown-kind : (t : ℕ) → 11 ≤ t → kind_of t ≡ none
+pub unknown-kind : (t : ℕ) → 11 ≤ t → kind_of t ≡ None
 unfolding kind_of
 unknown-kind t h = beyond (Library ∷ Struct ∷ Cprpty ∷ Property ∷ Layer ∷ Box ∷ Poly ∷ Wire ∷ Text ∷ Sref ∷ Endlib ∷ []) t h
 
@@ -168,44 +168,44 @@ not-ended s (extra x a) c = not-ended s a c
 
 library-stays : (s : OrderFacts) (o : Option Kind) → s.library ≡ true → (then s o).library ≡ true
 unfolding then
-library-stays s none h = h
-library-stays s (some Library) h = refl
-library-stays s (some Struct) h = h
-library-stays s (some Cprpty) h = h
-library-stays s (some Property) h = h
-library-stays s (some Layer) h = h
-library-stays s (some Box) h = h
-library-stays s (some Poly) h = h
-library-stays s (some Wire) h = h
-library-stays s (some Text) h = h
-library-stays s (some Sref) h = h
-library-stays s (some Endlib) h = h
+library-stays s None h = h
+library-stays s (Some Library) h = refl
+library-stays s (Some Struct) h = h
+library-stays s (Some Cprpty) h = h
+library-stays s (Some Property) h = h
+library-stays s (Some Layer) h = h
+library-stays s (Some Box) h = h
+library-stays s (Some Poly) h = h
+library-stays s (Some Wire) h = h
+library-stays s (Some Text) h = h
+library-stays s (Some Sref) h = h
+library-stays s (Some Endlib) h = h
 
 -- the first record of an accepted file is LIBRARY
-library-first : (o : Option Kind) (r : Rec) → broken (rules (may first o) o r) ≡ none → (then first o).library ≡ true
+library-first : (o : Option Kind) (r : Rec) → broken (rules (may first o) o r) ≡ None → (then first o).library ≡ true
 unfolding then rules broken start may
-library-first none r b = cc
-library-first (some Library) r b = refl
-library-first (some Struct) r b = cc
-library-first (some Cprpty) r b = cc
-library-first (some Property) r b = cc
-library-first (some Layer) r b = cc
-library-first (some Box) r b = cc
-library-first (some Poly) r b = cc
-library-first (some Wire) r b = cc
-library-first (some Text) r b = cc
-library-first (some Sref) r b = cc
-library-first (some Endlib) r b = cc
+library-first None r b = cc
+library-first (Some Library) r b = refl
+library-first (Some Struct) r b = cc
+library-first (Some Cprpty) r b = cc
+library-first (Some Property) r b = cc
+library-first (Some Layer) r b = cc
+library-first (Some Box) r b = cc
+library-first (Some Poly) r b = cc
+library-first (Some Wire) r b = cc
+library-first (Some Text) r b = cc
+library-first (Some Sref) r b = cc
+library-first (Some Endlib) r b = cc
 
 chain-added : {rs rs' : List Rec} (s : OrderFacts) → Added rs rs' → s.library ≡ true → Chain s rs → Chain s rs'
 unfolding then
 chain-added s last l c = c
 chain-added s (keep {r} a) l c = (c.0, c.1, c.2, chain-added (then s (kind_of r.type)) a (library-stays s (kind_of r.type) l) c.3)
 chain-added s (extra {u} {rs} {rs'} x a) l c =
-    let e : kind_of u.type ≡ none = unknown-kind u.type x.type-unknown in (
+    let e : kind_of u.type ≡ None = unknown-kind u.type x.type-unknown in (
       not-ended s a c,
       x.sized,
-      subst (λ (o : Option Kind). broken (rules (may s o) o u) ≡ none) (sym e) (unfold rules broken may in (ap (λ (b : Bool). cond (b && true) none (some 6)) l)),
+      subst (λ (o : Option Kind). broken (rules (may s o) o u) ≡ None) (sym e) (unfold rules broken may in (ap (λ (b : Bool). cond (b && true) None (Some 6)) l)),
       subst (λ (o : Option Kind). Chain (then s o) rs') (sym e) (chain-added s a l c),
     )
 

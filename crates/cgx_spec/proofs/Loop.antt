@@ -6,7 +6,7 @@ use native.Mathlib.Omega.{arith}
 use lib.ListN.{length, drop, length-drop}
 use lib.Seq.{drop-drop}
 use Rattle.cgx_spec.specs.declared.Context.{Context}
-use Rattle.cgx_spec.specs.declared.Verdict.{Verdict}
+use Rattle.cgx_spec.specs.Verdicts.{Verdict}
 use Rattle.cgx_spec.specs.Order.{start}
 use Rattle.cgx_spec.specs.Records.{size, Placed, context_after}
 use Rattle.cgx_spec.specs.Files.{Step, stop, go, step, before, walk, header, opening, begin, walk_of}

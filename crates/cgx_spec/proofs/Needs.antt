@@ -1,4 +1,5 @@
 -- Rule 6: by what a kind needs and the context, and need by need and by looking back. Assumes nothing.
+use Rattle.std.specs.Prelude.{None, Option, Some}
 use mathlib.Core.Path.{◌≡◌, refl, sym, ap₂}
 use mathlib.Core.Logic.{◌↔◌}
 use mathlib.Core.Bool.{Bool, true, false, not, ◌||◌}
@@ -8,8 +9,6 @@ use native.Mathlib.Omega.{arith}
 use borrow.Author.Tests.{ne_eqb}
 use Rattle.cgx_spec.specs.declared.Kind.{Kind}
 use Rattle.cgx_spec.specs.declared.Kind.TheVariants.{Library, Struct, Cprpty, Property, Layer, Box, Poly, Wire, Text, Sref, Endlib}
-use Rattle.cgx_spec.specs.declared.Offset.{Offset}
-use Rattle.cgx_spec.specs.declared.Offset.TheVariants.{Nowhere, At}
 use Rattle.cgx_spec.specs.declared.Context.{Context}
 use Rattle.cgx_spec.specs.declared.Need.{Need}
 use Rattle.cgx_spec.specs.declared.Need.TheVariants.{LibraryBefore, NoLibraryBefore, OpenCell, LayerInForce, NoneAwaiting, OnlyCprpty}
@@ -84,9 +83,9 @@ of-unknown c t h =
 
 -- ---- needs by looking back
 
-offset-iff : (o : Offset) → (present o ≡ true) ↔ (o ≡ Nowhere → ⊥)
-offset-iff Nowhere = ((λ e n. clash e refl), (λ n. absurd (n refl)))
-offset-iff (At p) = ((λ e n. let z : ◌≡◌ {A = ℕ} 0 1 = cc in omega arith), (λ n. refl))
+offset-iff : (o : Option ℕ) → (present o ≡ true) ↔ (o ≡ None → ⊥)
+offset-iff None = ((λ e n. clash e refl), (λ n. absurd (n refl)))
+offset-iff (Some p) = ((λ e n. let z : ◌≡◌ {A = ℕ} 0 1 = cc in omega arith), (λ n. refl))
 
 not_iff : (b : Bool) → (not b ≡ true) ↔ (b ≡ false)
 not_iff true = ((λ e. sym e), (λ e. sym e))

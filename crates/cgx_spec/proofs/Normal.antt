@@ -1,12 +1,12 @@
 -- The normal form of a record: same rules kept, same meaning; and records of equal meaning have one normal form.
+use Rattle.std.specs.Prelude.{None, Option, Some, slice_get}
 use mathlib.Core.Path.{◌≡◌, refl, sym, ap, ap₂, ◌∙◌, subst}
 use mathlib.Core.Bool.{Bool, true, false, not, ◌&&◌, ◌||◌}
 use mathlib.Core.List.{List, [], ◌∷◌, ◌++◌, map, head-eq_of_cons-eq, tail-eq_of_cons-eq}
-use mathlib.Core.Option.{Option, none, some}
 use Prim.Native.Nat.{ℕ, zero, suc, ◌<◌}
 use native.Mathlib.Omega.{arith}
 use lib.Dec.{T, ltb, eqb, eqb→eq, ltb→lt}
-use lib.ListN.{length, take, drop, get_elem?}
+use lib.ListN.{length, take, drop}
 use Rattle.cgx_spec.specs.declared.Kind.{Kind}
 use Rattle.cgx_spec.specs.declared.Kind.TheVariants.{Library, Struct, Cprpty, Property, Layer, Box, Poly, Wire, Text, Sref, Endlib}
 use Rattle.cgx_spec.specs.Numbers.{Bytes}
@@ -86,7 +86,7 @@ module _ (k : Kind) (r : Rec) (h : Fit (pieces_of k r)) where
       let e : values (pieces_of k (normal_of k r)) ≡ values (pieces_of k r) = ap values pieces-of-normal ∙ values-normal (pieces_of k r) h in
       λ i. record { kind = k; flags = flags-again k r.flags b i; fields = e i }
 
-  pub rules-normal : (s : Bool) → rules s (some k) (normal_of k r) ≡ rules s (some k) r
+  pub rules-normal : (s : Bool) → rules s (Some k) (normal_of k r) ≡ rules s (Some k) r
   unfolding rules
   rules-normal s =
       let ps = pieces_of k r in
@@ -131,7 +131,7 @@ sound (p ∷ ps) f h₉ h₁₀ h₁₁ h₁₂ =
     let e₁₂ = every-cons (kept 12) p ps h₁₂ in
     (f.0, f.1, kept-good p.field p.bytes e₉.0 e₁₀.0 e₁₁.0 e₁₂.0, sound ps f.2 e₉.1 e₁₀.1 e₁₁.1 e₁₂.1)
 
-pub broken-none : (n : ℕ) (b : Bool) (rs : List Rule) → broken (rule n b ∷ rs) ≡ none → T b × (broken rs ≡ none)
+pub broken-none : (n : ℕ) (b : Bool) (rs : List Rule) → broken (rule n b ∷ rs) ≡ None → T b × (broken rs ≡ None)
 unfolding broken
 broken-none n true rs e = (tt, e)
 broken-none n false rs e = absurd (let z : ◌≡◌ {A = ℕ} 0 1 = cc in omega arith)
@@ -146,7 +146,7 @@ pub record AllKept (s : Bool) (k : Kind) (r : Rec) : Type 0 where
   pub eleven : T (keeps 11 (pieces_of k r))
   pub twelve : T (keeps 12 (pieces_of k r))
 
-pub all-kept : (s : Bool) (k : Kind) (r : Rec) → broken (rules s (some k) r) ≡ none → AllKept s k r
+pub all-kept : (s : Bool) (k : Kind) (r : Rec) → broken (rules s (Some k) r) ≡ None → AllKept s k r
 unfolding rules
 all-kept s k r e =
     let ps = pieces_of k r in
@@ -160,30 +160,30 @@ all-kept s k r e =
     record { place = e₆.0; flags = e₇.0; lengths = e₈.0; nine = e₉.0; ten = e₁₀.0; eleven = e₁₁.0; twelve = e₁₂.0 }
 
 -- the fields fit and the strings are good
-pub rules-kept : (s : Bool) (k : Kind) (r : Rec) → broken (rules s (some k) r) ≡ none → (lengths_fit (pieces_of k r) ≡ true) × (keeps 11 (pieces_of k r) ≡ true)
+pub rules-kept : (s : Bool) (k : Kind) (r : Rec) → broken (rules s (Some k) r) ≡ None → (lengths_fit (pieces_of k r) ≡ true) × (keeps 11 (pieces_of k r) ≡ true)
 rules-kept s k r e = let h = all-kept s k r e in (T→true h.lengths, T→true h.eleven)
 
-pub keeps-rules : (s : Bool) (k : Kind) (r : Rec) → Bytes r.body → broken (rules s (some k) r) ≡ none → Sound (pieces_of k r)
+pub keeps-rules : (s : Bool) (k : Kind) (r : Rec) → Bytes r.body → broken (rules s (Some k) r) ≡ None → Sound (pieces_of k r)
 keeps-rules s k r hb e =
     let h = all-kept s k r e in
     sound (pieces_of k r) (unfold pieces_of in (fit (layout k r.flags) r.body hb h.lengths)) h.nine h.ten h.eleven h.twelve
 
 -- ---- equal meanings
 
-in_list : (l : List Kind) (t : ℕ) (k : Kind) → get_elem? l t ≡ some k → t < length l
+in_list : (l : List Kind) (t : ℕ) (k : Kind) → slice_get l t ≡ Some k → t < length l
 in_list [] t k e = absurd (let z : ◌≡◌ {A = ℕ} 0 1 = cc in omega arith)
 in_list (x ∷ l) zero k e = omega arith
 in_list (x ∷ l) (suc t) k e = let h : t < length l = in_list l t k e in omega arith
 
 byte_of : Option Kind → ℕ
-byte_of none = 11
-byte_of (some k) = type_for k
+byte_of None = 11
+byte_of (Some k) = type_for k
 
 typed : ℕ → Bool
 typed t = eqb (byte_of (kind_of t)) t
 
 -- a known record's type is its kind's
-pub type-is : (t : ℕ) (k : Kind) → kind_of t ≡ some k → t ≡ type_for k
+pub type-is : (t : ℕ) (k : Kind) → kind_of t ≡ Some k → t ≡ type_for k
 unfolding kind_of byte_of typed all_below
 type-is t k e =
     let l = Library ∷ Struct ∷ Cprpty ∷ Property ∷ Layer ∷ Box ∷ Poly ∷ Wire ∷ Text ∷ Sref ∷ Endlib ∷ [] in
@@ -201,7 +201,7 @@ body_same (f ∷ fs) x y hx hy e =
     let q : normal_bytes (pieces fs x') ≡ normal_bytes (pieces fs y') = body_same fs x' y' hx.3 hy.3 (tail-eq_of_cons-eq e) in
     ap₂ ◌++◌ p q
 
-record_same : (k : Kind) (q r : Rec) → kind_of q.type ≡ some k → kind_of r.type ≡ some k → Sound (pieces_of k q) → Sound (pieces_of k r) → flags_of k q.flags ≡ flags_of k r.flags → values (pieces_of k q) ≡ values (pieces_of k r) → normal_of k q ≡ normal_of k r
+record_same : (k : Kind) (q r : Rec) → kind_of q.type ≡ Some k → kind_of r.type ≡ Some k → Sound (pieces_of k q) → Sound (pieces_of k r) → flags_of k q.flags ≡ flags_of k r.flags → values (pieces_of k q) ≡ values (pieces_of k r) → normal_of k q ≡ normal_of k r
 unfolding normal_of pieces_of
 record_same k q r tq tr hq hr ef ev =
     let el : layout k r.flags ≡ layout k q.flags = sym (layout-flags k r.flags) ∙ ap (layout k) (sym ef) ∙ layout-flags k q.flags in
@@ -210,11 +210,11 @@ record_same k q r tq tr hq hr ef ev =
     let t : q.type ≡ r.type = type-is q.type k tq ∙ sym (type-is r.type k tr) in
     λ i. record { type = t i; flags = ef i; body = b i }
 
-pub known_same : (j k : Kind) (q r : Rec) → kind_of q.type ≡ some j → kind_of r.type ≡ some k → Sound (pieces_of j q) → Sound (pieces_of k r) → meaning_of j q ≡ meaning_of k r → normal_of j q ≡ normal_of k r
+pub known_same : (j k : Kind) (q r : Rec) → kind_of q.type ≡ Some j → kind_of r.type ≡ Some k → Sound (pieces_of j q) → Sound (pieces_of k r) → meaning_of j q ≡ meaning_of k r → normal_of j q ≡ normal_of k r
 unfolding meaning_of
 known_same j k q r tq tr hq hr e =
     subst
-    (λ (k' : Kind). kind_of r.type ≡ some k' → Sound (pieces_of k' r) → flags_of j q.flags ≡ flags_of k' r.flags → values (pieces_of j q) ≡ values (pieces_of k' r) → normal_of j q ≡ normal_of k' r)
+    (λ (k' : Kind). kind_of r.type ≡ Some k' → Sound (pieces_of k' r) → flags_of j q.flags ≡ flags_of k' r.flags → values (pieces_of j q) ≡ values (pieces_of k' r) → normal_of j q ≡ normal_of k' r)
     (ap (λ m. m.kind) e)
     (λ tr' hr' ef ev. record_same j q r tq tr' hq hr' ef ev)
     tr

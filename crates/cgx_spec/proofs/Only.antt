@@ -1,4 +1,5 @@
 -- Only one verdict is true: good records lead on in one way, and one check is the first that fails. Assumes nothing.
+use Rattle.std.specs.Prelude.{Err, Ok}
 use mathlib.Core.Path.{◌≡◌, refl, sym, ap, ap₂, ◌∙◌, subst}
 use mathlib.Core.Logic.{◌⊎◌, inl, inr}
 use mathlib.Core.Bool.{Bool, true, false}
@@ -9,8 +10,8 @@ use native.Mathlib.Omega.{arith}
 use borrow.Author.Tests.{ltb-true, ltb-false}
 use lib.Dec.{ltb}
 use lib.ListN.{length, drop, length-drop}
-use Rattle.cgx_spec.specs.declared.Verdict.{Verdict}
-use Rattle.cgx_spec.specs.declared.Verdict.TheVariants.{Accepted as accepted, Refused as refused}
+use Rattle.cgx_spec.specs.Verdicts.{Verdict}
+use Rattle.cgx_spec.specs.Verdicts.{accepted, refused}
 use Rattle.cgx_spec.specs.Fields.{All}
 use Rattle.cgx_spec.specs.Restated.{RecordBefore, end_before}
 use Rattle.cgx_spec.specs.Checks.{FirstFails, size_in, type_in, Check, none_left, number_of, Passes, file_checks, checks_at, GoodAt, GoodUpTo, begun, known_next, unknown_next, AllGood, NotBegun, Stopped, True}
@@ -117,10 +118,10 @@ module _ (f : List ℕ) where
       never_both (omega (arith, length-drop (length f) f), tt) l
 
   pub one-true : (v w : Verdict) → True f v → True f w → v ≡ w
-  one-true accepted accepted h k = refl
-  one-true accepted (refused n at) h k = absurd (not-both n at h k)
-  one-true (refused n at) accepted h k = absurd (not-both n at k h)
-  one-true (refused n at) (refused m to) (inl s) (inl u) = one-not-begun n at m to s u
-  one-true (refused n at) (refused m to) (inl s) (inr u) = absurd (never_both (well-begun u.earlier) s.first)
-  one-true (refused n at) (refused m to) (inr s) (inl u) = absurd (never_both (well-begun s.earlier) u.first)
-  one-true (refused n at) (refused m to) (inr s) (inr u) = one-stopped n at m to s u
+  one-true (Ok _) (Ok _) h k = refl
+  one-true (Ok _) (Err r) h k = absurd (not-both r.number r.at h k)
+  one-true (Err r) (Ok _) h k = absurd (not-both r.number r.at k h)
+  one-true (Err r) (Err q) (inl s) (inl u) = one-not-begun r.number r.at q.number q.at s u
+  one-true (Err r) (Err q) (inl s) (inr u) = absurd (never_both (well-begun u.earlier) s.first)
+  one-true (Err r) (Err q) (inr s) (inl u) = absurd (never_both (well-begun s.earlier) u.first)
+  one-true (Err r) (Err q) (inr s) (inr u) = one-stopped r.number r.at q.number q.at s u

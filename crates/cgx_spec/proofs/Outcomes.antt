@@ -1,10 +1,10 @@
 -- The rules 6 to 12 of a record one after another: the first that is broken is the first check that fails. Assumes nothing.
+use Rattle.std.specs.Prelude.{None, Option, Some}
 use mathlib.Core.Path.{◌≡◌, refl, sym, ap, ◌∙◌, subst}
 use mathlib.Core.Logic.Iff
 use mathlib.Core.Logic.{◌↔◌}
 use mathlib.Core.Bool.{Bool, true, false, cond}
 use mathlib.Core.List.{List, [], ◌∷◌}
-use mathlib.Core.Option.{Option, none, some}
 use Prim.Native.Nat.{ℕ, suc, ◌+◌, ◌*◌, ◌-◌, ◌%◌, ◌≤◌, ◌<◌}
 use native.Mathlib.Omega.{arith}
 use borrow.Author.Tests.{leb-true, le-leb}
@@ -25,7 +25,7 @@ use Rattle.cgx_spec.proofs.Located.{dates-iff, numbers-iff, strings-iff, polygon
 -- ---- what is asked of the kind of a type
 
 pub same_kind : (k l : Kind) → type_byte k ≡ type_byte l → k ≡ l
-same_kind k l e = let z : some k ≡ some l = sym (agreement.types k) ∙ ap kind_of e ∙ agreement.types l in cc
+same_kind k l e = let z : Some k ≡ Some l = sym (agreement.types k) ∙ ap kind_of e ∙ agreement.types l in cc
 
 of-kind : (k : Kind) (Q : Kind → Type 0) → Q k ↔ OfKind (type_byte k) Q
 of-kind k Q = ((λ q l e. subst Q (same_kind k l e) q), (λ h. h k refl))
@@ -45,18 +45,18 @@ length-iff k r n q e l = iff-by (agreement.sizes k r e l ∙ ap (good_size k r.f
 
 -- the first rule of a list that is broken is the first check that fails
 abbrev pub Outcome : (Check → Type 0) → List Check → Option ℕ → Type 0
-Outcome P l none = All P l
-Outcome P l (some n) = (x : Check) × (n ≡ number_of x) × FirstFails P l x
+Outcome P l None = All P l
+Outcome P l (Some n) = (x : Check) × (n ≡ number_of x) × FirstFails P l x
 
 chain : (P : Check → Type 0) (x : Check) (v : Bool) (l : List Check) (rs : List Rule) → (v ≡ true) ↔ P x → (P x → Outcome P l (broken rs)) → Outcome P (x ∷ l) (broken (rule (number_of x) v ∷ rs))
 unfolding broken
 chain P x v l rs iff h = go v iff
   where
     more : P x → (o : Option ℕ) → Outcome P l o → Outcome P (x ∷ l) o
-    more p none y = (p, y)
-    more p (some n) y = (y.0, y.1, first-later p y.2)
+    more p None y = (p, y)
+    more p (Some n) y = (y.0, y.1, first-later p y.2)
 
-    go : (v : Bool) → (v ≡ true) ↔ P x → Outcome P (x ∷ l) (cond v (broken rs) (some (number_of x)))
+    go : (v : Bool) → (v ≡ true) ↔ P x → Outcome P (x ∷ l) (cond v (broken rs) (Some (number_of x)))
     go true i = let p = i.0 refl in more p (broken rs) (h p)
     go false i = (x, refl, first-here x l (λ p. clash (i.1 p) refl))
 

@@ -1,8 +1,8 @@
 -- Req 02: the second of a date decides by itself, in a date, in a record and in a whole file.
+use Rattle.std.specs.Prelude.{None, Option, Some}
 use mathlib.Core.Path.{◌≡◌, refl, sym, ap, ap₂, ◌∙◌, subst}
 use mathlib.Core.Bool.{Bool, true, false, ◌&&◌, cond}
 use mathlib.Core.List.{List, [], ◌∷◌, ◌++◌, append_assoc}
-use mathlib.Core.Option.{Option, none, some}
 use Prim.Native.Nat.{ℕ, zero, suc, ◌+◌, ◌≤◌, ◌<◌}
 use native.Mathlib.Nat.{zero-add, add-zero, suc-add}
 use native.Mathlib.Omega.{arith}
@@ -12,7 +12,7 @@ use lib.Seq.{get_or-set_same, get_or-set_other, set-append_left, take-set-le, dr
 use Rattle.cgx_spec.specs.declared.Kind.{Kind}
 use Rattle.cgx_spec.specs.declared.Kind.TheVariants.{Library, Struct, Cprpty, Property, Layer, Box, Poly, Wire, Text, Sref, Endlib}
 use Rattle.cgx_spec.specs.declared.Context.{Context}
-use Rattle.cgx_spec.specs.declared.Verdict.TheVariants.{Accepted as accepted, Refused as refused}
+use Rattle.cgx_spec.specs.Verdicts.{accepted, refused}
 use Rattle.cgx_spec.specs.Numbers.{Bytes}
 use Rattle.cgx_spec.specs.Dates.{within, last_second, calendar, good_date}
 use Rattle.cgx_spec.specs.Fields.{Field, date, fits, width, rule_of, good, Piece, pieces, All, join, lengths_fit, keeps}
@@ -119,12 +119,12 @@ stamped (after {f = f} {fs = fs} {i = i} w e at) b s =
 abbrev with : ℕ → ℕ → Rec → Rec
 with i s r = record { type = r.type; flags = r.flags; body = set r.body i s }
 
-only-nine : {a b c d e f g x : Bool} → a ≡ true → b ≡ true → c ≡ true → d ≡ x → e ≡ true → f ≡ true → g ≡ true → broken (rule 6 a ∷ rule 7 b ∷ rule 8 c ∷ rule 9 d ∷ rule 10 e ∷ rule 11 f ∷ rule 12 g ∷ []) ≡ cond x none (some 9)
+only-nine : {a b c d e f g x : Bool} → a ≡ true → b ≡ true → c ≡ true → d ≡ x → e ≡ true → f ≡ true → g ≡ true → broken (rule 6 a ∷ rule 7 b ∷ rule 8 c ∷ rule 9 d ∷ rule 10 e ∷ rule 11 f ∷ rule 12 g ∷ []) ≡ cond x None (Some 9)
 unfolding broken
 only-nine a b c d e f g i = broken (rule 6 (a i) ∷ rule 7 (b i) ∷ rule 8 (c i) ∷ rule 9 (d i) ∷ rule 10 (e i) ∷ rule 11 (f i) ∷ rule 12 (g i) ∷ [])
 
 -- what a record needs of its place stays, and of its rules only 9 may break
-with-fault : (ok : Bool) (k : Kind) (r : Rec) (i s : ℕ) → SecondAt (layout k r.flags) i → broken (rules ok (some k) r) ≡ none → (i < length r.body) × (broken (rules ok (some k) (with i s r)) ≡ cond (leb s 60) none (some 9))
+with-fault : (ok : Bool) (k : Kind) (r : Rec) (i s : ℕ) → SecondAt (layout k r.flags) i → broken (rules ok (Some k) r) ≡ None → (i < length r.body) × (broken (rules ok (Some k) (with i s r)) ≡ cond (leb s 60) None (Some 9))
 unfolding rules pieces_of
 with-fault ok k r i s at e =
     let h = all-kept ok k r e in
@@ -176,7 +176,7 @@ join-append [] y = refl
 join-append (r ∷ x) y = ap (λ t. bytes_of r ++ t) (join-append x y) ∙ sym (append_assoc (bytes_of r) (join bytes_of x) (join bytes_of y))
 
 -- a step at a record that breaks a rule
-step-fault : (c : Context) (at n : ℕ) (r : Rec) (bs : List ℕ) → c.ended ≡ false → Sized r → fault (facts_of c) r ≡ some n → step c at (bytes_of r ++ bs) ≡ stop (refused n at)
+step-fault : (c : Context) (at n : ℕ) (r : Rec) (bs : List ℕ) → c.ended ≡ false → Sized r → fault (facts_of c) r ≡ Some n → step c at (bytes_of r ++ bs) ≡ stop (refused n at)
 unfolding step judge settle
 step-fault c at n r bs e h b =
     let x = bytes_of r ++ bs in
@@ -192,11 +192,11 @@ unfolding bytes_of
 there-inside r i h = omega arith
 
 -- A record r of the kind k, the byte i of its body a second, and s in its place.
-module _ (k : Kind) (r : Rec) (i s : ℕ) (kind : kind_of r.type ≡ some k) (second : SecondAt (layout k r.flags) i) (byte : s < 256) where
-  with-kept : (facts : OrderFacts) → fault facts r ≡ none → (i < length r.body) × (fault facts (with i s r) ≡ cond (leb s 60) none (some 9))
+module _ (k : Kind) (r : Rec) (i s : ℕ) (kind : kind_of r.type ≡ Some k) (second : SecondAt (layout k r.flags) i) (byte : s < 256) where
+  with-kept : (facts : OrderFacts) → fault facts r ≡ None → (i < length r.body) × (fault facts (with i s r) ≡ cond (leb s 60) None (Some 9))
   with-kept facts e =
-      let h = with-fault (may facts (some k)) k r i s second (subst (λ (o : Option Kind). broken (rules (may facts o) o r) ≡ none) kind e) in
-      (h.0, subst (λ (o : Option Kind). broken (rules (may facts o) o (with i s r)) ≡ cond (leb s 60) none (some 9)) (sym kind) h.1)
+      let h = with-fault (may facts (Some k)) k r i s second (subst (λ (o : Option Kind). broken (rules (may facts o) o r) ≡ None) kind e) in
+      (h.0, subst (λ (o : Option Kind). broken (rules (may facts o) o (with i s r)) ≡ cond (leb s 60) None (Some 9)) (sym kind) h.1)
 
   inside_of : (earlier later : List Rec) (facts : OrderFacts) → Chain facts (earlier ++ (r ∷ later)) → i < length r.body
   inside_of [] later facts h = (with-kept facts h.2).0
@@ -215,8 +215,8 @@ module _ (k : Kind) (r : Rec) (i s : ℕ) (kind : kind_of r.type ≡ some k) (se
       sized = with-sized r i s byte h.1
 
       decided : (b : Bool) → leb s 60 ≡ b → (walk (suc n) (step c at (bytes_of q ++ join bytes_of later))).verdict ≡ cond b accepted (refused 9 (at + 0))
-      decided true e = (walk-complete (q ∷ later) (suc n) c at (omega arith) (h.0, sized, (with-kept (facts_of c) h.2).1 ∙ ap (λ (z : Bool). cond z none (some 9)) e, h.3)).0
-      decided false e = rw (step-fault c at 9 q (join bytes_of later) h.0 sized ((with-kept (facts_of c) h.2).1 ∙ ap (λ (z : Bool). cond z none (some 9)) e)) (ap (refused 9) (sym (add-zero at)))
+      decided true e = (walk-complete (q ∷ later) (suc n) c at (omega arith) (h.0, sized, (with-kept (facts_of c) h.2).1 ∙ ap (λ (z : Bool). cond z None (Some 9)) e, h.3)).0
+      decided false e = rw (step-fault c at 9 q (join bytes_of later) h.0 sized ((with-kept (facts_of c) h.2).1 ∙ ap (λ (z : Bool). cond z None (Some 9)) e)) (ap (refused 9) (sym (add-zero at)))
   walk-second (q ∷ earlier) later zero c at l h = absurd (omega arith)
   walk-second (q ∷ earlier) later (suc n) c at l h =
       let p = placed c at q in
@@ -242,7 +242,7 @@ module _ (k : Kind) (r : Rec) (i s : ℕ) (kind : kind_of r.type ≡ some k) (se
       ∙ walk-second earlier later (length (header ++ (J ++ (bytes_of q ++ join bytes_of later)))) start 4 (omega (arith, length-append earlier (r ∷ later), length-append J (bytes_of q ++ join bytes_of later), length-join earlier, length-join (q ∷ later))) chain
 
 each-second : (f : List ℕ) → Bytes f → Accepted f → (earlier : List Rec) (r : Rec) (later : List Rec) → records_of f ≡ earlier ++ (r ∷ later)
-    → (k : Kind) → kind_of r.type ≡ some k → (s : ℕ) → s < 256
+    → (k : Kind) → kind_of r.type ≡ Some k → (s : ℕ) → s < 256
     → let at = 4 + length (join bytes_of earlier) in All (λ date. verdict_of (set f (at + date + 6) s) ≡ cond (leb s 60) accepted (refused 9 at)) (dates_at k)
 unfolding dates_at layout width
 each-second f hb a earlier r later e Library kind s byte = (

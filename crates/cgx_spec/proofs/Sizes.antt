@@ -1,8 +1,8 @@
 -- Rule 8 by sizes: the fields of a record fit exactly when its size is one that 01 gives for its kind.
+use Rattle.std.specs.Prelude.{None, Option, Some}
 use mathlib.Core.Path.{◌≡◌, refl, sym, ap, ap₂, ◌∙◌, subst}
 use mathlib.Core.Bool.{Bool, true, false, ◌&&◌, cond}
 use mathlib.Core.List.{List, [], ◌∷◌}
-use mathlib.Core.Option.{Option, none, some}
 use Prim.Native.Nat.{ℕ, zero, suc, ◌+◌, ◌*◌, ◌/◌, ◌%◌, ◌-◌, ◌≤◌, ◌<◌, min}
 use native.Mathlib.Nat.{sub-zero, mul_comm, mul-le-mul_left, le-div_iff_mul-le, div-le_of_le-mul}
 use native.Mathlib.Omega.{arith}
@@ -75,27 +75,27 @@ record Always (f : Field) : Type 0 where
   is : Fixed f long
 
 abbrev has : {f : Field} (w : ℕ) → Fixed f w → Option (Always f)
-has w h = some (record { long = w; is = h })
+has w h = Some (record { long = w; is = h })
 
 always : (f : Field) → Option (Always f)
 always real = has 8 fixed-real
 always positive = has 8 fixed-positive
 always date = has 8 fixed-date
 always short = has 2 fixed-short
-always (longs zero lo hi t) = none
-always (longs (suc zero) zero hi t) = none
-always (longs (suc zero) (suc zero) zero t) = none
+always (longs zero lo hi t) = None
+always (longs (suc zero) zero hi t) = None
+always (longs (suc zero) (suc zero) zero t) = None
 always (longs (suc zero) (suc zero) (suc zero) t) = has 4 (fixed-long t)
-always (longs (suc zero) (suc zero) (suc (suc hi)) t) = none
-always (longs (suc zero) (suc (suc lo)) hi t) = none
-always (longs (suc (suc zero)) zero hi t) = none
-always (longs (suc (suc zero)) (suc zero) zero t) = none
+always (longs (suc zero) (suc zero) (suc (suc hi)) t) = None
+always (longs (suc zero) (suc (suc lo)) hi t) = None
+always (longs (suc (suc zero)) zero hi t) = None
+always (longs (suc (suc zero)) (suc zero) zero t) = None
 always (longs (suc (suc zero)) (suc zero) (suc zero) t) = has 8 (fixed-point t)
-always (longs (suc (suc zero)) (suc zero) (suc (suc hi)) t) = none
-always (longs (suc (suc zero)) (suc (suc lo)) hi t) = none
-always (longs (suc (suc (suc n))) lo hi t) = none
-always string = none
-always optional = none
+always (longs (suc (suc zero)) (suc zero) (suc (suc hi)) t) = None
+always (longs (suc (suc zero)) (suc (suc lo)) hi t) = None
+always (longs (suc (suc (suc n))) lo hi t) = None
+always string = None
+always optional = None
 always absent = has 0 fixed-absent
 
 -- ---- a beginning of fixed length
@@ -134,8 +134,8 @@ record Leads (fs : List Field) : Type 0 where
   is : Prefix fs long rest
 
 abbrev lead : (f : Field) (fs : List Field) → Option (Always f) → Leads fs → Leads (f ∷ fs)
-lead f fs none l = record { long = 0; rest = f ∷ fs; is = prefix-end (f ∷ fs) }
-lead f fs (some a) l = record { long = a.long + l.long; rest = l.rest; is = prefix-more a.is l.is }
+lead f fs None l = record { long = 0; rest = f ∷ fs; is = prefix-end (f ∷ fs) }
+lead f fs (Some a) l = record { long = a.long + l.long; rest = l.rest; is = prefix-more a.is l.is }
 
 leading : (fs : List Field) → Leads fs
 leading [] = record { long = 0; rest = []; is = prefix-end [] }

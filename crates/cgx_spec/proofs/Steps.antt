@@ -1,8 +1,8 @@
 -- A walk step by step gives the views and the verdict of the whole-file walk; and a view means what its record means.
+use Rattle.std.specs.Prelude.{None, Option, Some, Ok, Err}
 use mathlib.Core.Path.{◌≡◌, refl, sym, ap, ◌∙◌, subst}
 use mathlib.Core.Bool.{Bool, true, false, ◌||◌, cond}
 use mathlib.Core.List.{List, [], ◌∷◌, ◌++◌, map}
-use mathlib.Core.Option.{Option, none, some}
 use Prim.Native.Nat.{ℕ, zero, suc, ◌+◌, ◌*◌, ◌%◌, ◌-◌, ◌≤◌, ◌<◌}
 use native.Mathlib.Omega.{arith}
 use lib.Dec.{T, leb, ltb, eqb, leb→le, le→leb}
@@ -10,14 +10,11 @@ use lib.ListN.{length, take, drop, length-drop}
 use lib.Seq.{length-take-le, drop-drop}
 use Rattle.cgx_spec.specs.declared.Kind.{Kind}
 use Rattle.cgx_spec.specs.declared.Kind.TheVariants.{Library, Struct, Cprpty, Property, Layer, Box, Poly, Wire, Text, Sref, Endlib}
-use Rattle.cgx_spec.specs.declared.Offset.{Offset}
-use Rattle.cgx_spec.specs.declared.Offset.TheVariants.{Nowhere, At}
 use Rattle.cgx_spec.specs.declared.Run.{Run}
-use Rattle.cgx_spec.specs.declared.Run.TheVariants.{Empty, Of}
 use Rattle.cgx_spec.specs.declared.Context.{Context}
 use Rattle.cgx_spec.specs.declared.Place.{Place}
-use Rattle.cgx_spec.specs.declared.Verdict.{Verdict}
-use Rattle.cgx_spec.specs.declared.Verdict.TheVariants.{Accepted as accepted, Refused as refused}
+use Rattle.cgx_spec.specs.Verdicts.{Verdict}
+use Rattle.cgx_spec.specs.Verdicts.{accepted, refused}
 use Rattle.cgx_spec.specs.Kinds.{kind_of, count}
 use Rattle.cgx_spec.specs.Order.{start, longer, next}
 use Rattle.cgx_spec.specs.Records.{Rec, size, Meaning, meaning_of, fault_of, Placed, context_after, view_of, view_meaning}
@@ -61,8 +58,8 @@ unfolding step judge settle
 step-at c at bs = one c.ended (cut bs) (cut_at bs)
   where
     three : (r : Rec) (rest : List ℕ) → CutAt bs (found r rest) → (o : Option ℕ) → StepAt bs c at (settle c at r rest o)
-    three r rest h none = (h.0, h.1, h.2, refl, refl)
-    three r rest h (some n) = tt
+    three r rest h None = (h.0, h.1, h.2, refl, refl)
+    three r rest h (Some n) = tt
 
     two : (x : Cut) → CutAt bs x → StepAt bs c at (judge c at x)
     two (bad n) h = tt
@@ -79,23 +76,23 @@ pub record Within (at : ℕ) (c : Context) : Type 0 where
   pub layer-in : T (offset_up_to at c.layer)
   pub run_in : T (run_up_to at c.run)
 
-up : (at at' : ℕ) → at ≤ at' → (o : Offset) → T (offset_up_to at o) → T (offset_up_to at' o)
-up at at' l Nowhere t = tt
-up at at' l (At p) t = le→leb p at' (let h = leb→le p at t in omega arith)
+up : (at at' : ℕ) → at ≤ at' → (o : Option ℕ) → T (offset_up_to at o) → T (offset_up_to at' o)
+up at at' l None t = tt
+up at at' l (Some p) t = le→leb p at' (let h = leb→le p at t in omega arith)
 
-up_run : (at at' : ℕ) → at ≤ at' → (r : Run) → T (run_up_to at r) → T (run_up_to at' r)
-up_run at at' l Empty t = tt
-up_run at at' l (Of first count) t =
-    let h = leb→le first at (and_left (leb first at) (leb count at) t) in
-    let k = leb→le count at (and_right (leb first at) (leb count at) t) in
-    and_both (leb first at') (leb count at') (le→leb first at' (omega arith)) (le→leb count at' (omega arith))
+up_run : (at at' : ℕ) → at ≤ at' → (r : Option Run) → T (run_up_to at r) → T (run_up_to at' r)
+up_run at at' l None t = tt
+up_run at at' l (Some r) t =
+    let h = leb→le r.first at (and_left (leb r.first at) (leb r.count at) t) in
+    let k = leb→le r.count at (and_right (leb r.first at) (leb r.count at) t) in
+    and_both (leb r.first at') (leb r.count at') (le→leb r.first at' (omega arith)) (le→leb r.count at' (omega arith))
 
-up-longer : (at at' : ℕ) → at < at' → (r : Run) → T (run_up_to at r) → T (run_up_to at' (longer r at))
-up-longer at at' l Empty t = and_both (leb at at') (leb 1 at') (le→leb at at' (omega arith)) (le→leb 1 at' (omega arith))
-up-longer at at' l (Of first count) t =
-    let h = leb→le first at (and_left (leb first at) (leb count at) t) in
-    let k = leb→le count at (and_right (leb first at) (leb count at) t) in
-    and_both (leb first at') (leb (count + 1) at') (le→leb first at' (omega arith)) (le→leb (count + 1) at' (omega arith))
+up-longer : (at at' : ℕ) → at < at' → (r : Option Run) → T (run_up_to at r) → T (run_up_to at' (longer r at))
+up-longer at at' l None t = and_both (leb at at') (leb 1 at') (le→leb at at' (omega arith)) (le→leb 1 at' (omega arith))
+up-longer at at' l (Some r) t =
+    let h = leb→le r.first at (and_left (leb r.first at) (leb r.count at) t) in
+    let k = leb→le r.count at (and_right (leb r.first at) (leb r.count at) t) in
+    and_both (leb r.first at') (leb (r.count + 1) at') (le→leb r.first at' (omega arith)) (le→leb (r.count + 1) at' (omega arith))
 
 pub within-next : (c : Context) (at at' : ℕ) (o : Option Kind) → at < at' → Within at c → Within at' (next c at o)
 within-next c at at' o l w = go o
@@ -110,18 +107,18 @@ within-next c at at' o l w = go o
     layer = up at at' (omega arith) c.layer w.layer-in
 
     go : (o : Option Kind) → Within at' (next c at o)
-    go none = record { cell_in = cell; layer-in = layer; run_in = up_run at at' (omega arith) c.run w.run_in }
-    go (some Library) = record { cell_in = tt; layer-in = tt; run_in = tt }
-    go (some Struct) = record { cell_in = here; layer-in = tt; run_in = tt }
-    go (some Cprpty) = record { cell_in = cell; layer-in = layer; run_in = tt }
-    go (some Property) = record { cell_in = cell; layer-in = layer; run_in = up-longer at at' l c.run w.run_in }
-    go (some Layer) = record { cell_in = cell; layer-in = here; run_in = tt }
-    go (some Box) = record { cell_in = cell; layer-in = layer; run_in = tt }
-    go (some Poly) = record { cell_in = cell; layer-in = layer; run_in = tt }
-    go (some Wire) = record { cell_in = cell; layer-in = layer; run_in = tt }
-    go (some Text) = record { cell_in = cell; layer-in = layer; run_in = tt }
-    go (some Sref) = record { cell_in = cell; layer-in = layer; run_in = tt }
-    go (some Endlib) = record { cell_in = cell; layer-in = layer; run_in = tt }
+    go None = record { cell_in = cell; layer-in = layer; run_in = up_run at at' (omega arith) c.run w.run_in }
+    go (Some Library) = record { cell_in = tt; layer-in = tt; run_in = tt }
+    go (Some Struct) = record { cell_in = here; layer-in = tt; run_in = tt }
+    go (Some Cprpty) = record { cell_in = cell; layer-in = layer; run_in = tt }
+    go (Some Property) = record { cell_in = cell; layer-in = layer; run_in = up-longer at at' l c.run w.run_in }
+    go (Some Layer) = record { cell_in = cell; layer-in = here; run_in = tt }
+    go (Some Box) = record { cell_in = cell; layer-in = layer; run_in = tt }
+    go (Some Poly) = record { cell_in = cell; layer-in = layer; run_in = tt }
+    go (Some Wire) = record { cell_in = cell; layer-in = layer; run_in = tt }
+    go (Some Text) = record { cell_in = cell; layer-in = layer; run_in = tt }
+    go (Some Sref) = record { cell_in = cell; layer-in = layer; run_in = tt }
+    go (Some Endlib) = record { cell_in = cell; layer-in = layer; run_in = tt }
 
 -- a place that a walk, or a writer, over n bytes comes to
 pub record Unforged (n : ℕ) (p : Place) : Type 0 where
@@ -165,10 +162,10 @@ walk-stop (suc k) v = refl
 
 reads-ending : (n : ℕ) (f : List ℕ) (v : Verdict) → reads n f (ending v) ≡ record { views = []; last = ending v }
 unfolding reads ending
-reads-ending zero f accepted = refl
-reads-ending (suc n) f accepted = refl
-reads-ending zero f (refused m p) = refl
-reads-ending (suc n) f (refused m p) = refl
+reads-ending zero f (Ok _) = refl
+reads-ending (suc n) f (Ok _) = refl
+reads-ending zero f (Err r) = refl
+reads-ending (suc n) f (Err r) = refl
 
 ended : (n k m : ℕ) (f : List ℕ) (v : Verdict) → reads n f (answer m (stop v)) ≡ summary (walk k (stop v))
 ended n k m f v = ap (reads n f) (answer-stop m v) ∙ reads-ending n f v ∙ (unfold views in (ap summary (sym (walk-stop k v))))
@@ -206,13 +203,13 @@ further f k ih c at m n h p rest s lk lm ln = one (kind_of p.rec.type)
     less : (b : ℕ) → length (drop at f) ≤ suc b → length (drop at' f) ≤ b
     less b l = let x = s.3 in let y = s.1 in omega (arith, length-drop at f, length-drop at' f)
 
-    one : (o : Option Kind) → reads (suc n) f (elim o [ none ↦ answer m (step (context_after p) at' rest) | some kd ↦ seen (view_of kd p) (place_after p) ]) ≡ record { views = if_seen o p (views (walk k (step (context_after p) at' rest)).records); last = ending (walk k (step (context_after p) at' rest)).verdict }
-    one none =
+    one : (o : Option Kind) → reads (suc n) f (elim o [ None ↦ answer m (step (context_after p) at' rest) | Some kd ↦ seen (view_of kd p) (place_after p) ]) ≡ record { views = if_seen o p (views (walk k (step (context_after p) at' rest)).records); last = ending (walk k (step (context_after p) at' rest)).verdict }
+    one None =
         subst (λ (x : List ℕ). reads (suc n) f (answer m (step (context_after p) at' x)) ≡ summary (walk k (step (context_after p) at' x))) (sym e)
         (ih (context_after p) at' m (suc n) r (less k lk) (less m lm) (let z = less n ln in omega arith))
-    one (some kd) =
+    one (Some kd) =
         let a = answer (length f) (step (context_after p) at' (drop at' f)) in
-        let g : step_of f (place_after p) ≡ a = ap (λ (b : Bool). cond b (refused_at 16 Nowhere) a) (not-forged (length f) (record { at = at'; context = context_after p }) r) in
+        let g : step_of f (place_after p) ≡ a = ap (λ (b : Bool). cond b (refused_at 16 None) a) (not-forged (length f) (record { at = at'; context = context_after p }) r) in
         let t = ih (context_after p) at' (length f) n r (less k lk) (omega (arith, length-drop at' f)) (less n ln) in
         ap (λ (q : Reads). and_then (view_of kd p) q) (ap (reads n f) g ∙ t ∙ ap (λ (x : List ℕ). summary (walk k (step (context_after p) at' x))) (sym e))
 
@@ -237,7 +234,7 @@ steps bs =
     let w : Within 4 start = record { cell_in = tt; layer-in = tt; run_in = tt } in
     let h : Reached f start 4 = record { low = omega arith; even = refl; high = omega arith; within = w } in
     let g = not-forged (length f) (record { at = 4; context = start }) h in
-    ap (λ (b : Bool). reads (length f) f (cond b (refused_at 16 Nowhere) (answer (length f) (step start 4 bs)))) g
+    ap (λ (b : Bool). reads (length f) f (cond b (refused_at 16 None) (answer (length f) (step start 4 bs)))) g
     ∙ reading f (length f) start 4 (length f) (length f) h (omega arith) (omega arith) (omega arith)
 
 -- ---- what is read is what is meant
@@ -248,8 +245,8 @@ views-of [] = refl
 views-of (p ∷ ps) = one (kind_of p.rec.type) (views-of ps)
   where
     one : (o : Option Kind) → map view_meaning (views ps) ≡ meanings (known (map (λ (q : Placed). q.rec) ps)) → map view_meaning (if_seen o p (views ps)) ≡ meanings (if_known o p.rec (known (map (λ (q : Placed). q.rec) ps)))
-    one none ih = ih
-    one (some k) ih = unfold view_of meaning_of in (ap (λ (t : List Meaning). meaning_of k p.rec ∷ t) ih)
+    one None ih = ih
+    one (Some k) ih = unfold view_of meaning_of in (ap (λ (t : List Meaning). meaning_of k p.rec ∷ t) ih)
 
 views-mean : (f : List ℕ) → map view_meaning (views_of f) ≡ meanings (sequence f)
 unfolding views_of sequence records_of

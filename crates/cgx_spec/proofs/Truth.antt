@@ -1,9 +1,9 @@
 -- The verdict on every file is true by 01's checks: of one step, of a walk, of a file. Assumes nothing.
+use Rattle.std.specs.Prelude.{None, Option, Some, Ok, Err}
 use mathlib.Core.Path.{◌≡◌, refl, sym, ap, ◌∙◌, subst}
 use mathlib.Core.Logic.{inl, inr}
 use mathlib.Core.Bool.{Bool, true, false, ◌&&◌, ◌||◌, cond}
 use mathlib.Core.List.{List, [], ◌∷◌}
-use mathlib.Core.Option.{Option, none, some}
 use Prim.Native.Nat.{ℕ, zero, suc, ◌+◌, ◌*◌, ◌-◌, ◌%◌, ◌≤◌, ◌<◌}
 use native.Mathlib.Omega.{arith}
 use borrow.Author.Tests.{ltb-true, ltb-false, eqb-true, eqb-false, eq-eqb, ne_eqb, le-ltb}
@@ -12,8 +12,8 @@ use lib.ListN.{length, take, drop, length-drop}
 use lib.Seq.{drop-drop, length-take-le}
 use Rattle.cgx_spec.specs.declared.Kind.{Kind}
 use Rattle.cgx_spec.specs.declared.Context.{Context}
-use Rattle.cgx_spec.specs.declared.Verdict.{Verdict}
-use Rattle.cgx_spec.specs.declared.Verdict.TheVariants.{Accepted as accepted, Refused as refused}
+use Rattle.cgx_spec.specs.Verdicts.{Verdict}
+use Rattle.cgx_spec.specs.Verdicts.{accepted, refused}
 use Rattle.cgx_spec.specs.Numbers.{Bytes}
 use Rattle.cgx_spec.specs.Fields.{All}
 use Rattle.cgx_spec.specs.Kinds.{kind_of}
@@ -38,8 +38,8 @@ record Found (bs : List RecordBefore) (b : List ℕ) (l : List Check) (n : ℕ) 
   first : FirstFails (Passes bs b) l check
 
 abbrev StepTruth : Bool → List RecordBefore → List ℕ → ℕ → Step → Type 0
-StepTruth z bs b at (stop accepted) = (z ≡ true) × (length b ≡ 0)
-StepTruth z bs b at (stop (refused n p)) = (p ≡ at) × Found bs b (checks_at z) n
+StepTruth z bs b at (stop (Ok _)) = (z ≡ true) × (length b ≡ 0)
+StepTruth z bs b at (stop (Err r)) = (r.at ≡ at) × Found bs b (checks_at z) r.number
 StepTruth z bs b at (go p rest) = (z ≡ false) × All (Passes bs b) record_checks × (size p.rec ≡ size_in b) × (p.rec.type ≡ type_in b)
 
 few : (bs : List RecordBefore) (b : List ℕ) → 1 ≤ length b → length b < 4 → Found bs b record_checks 4
@@ -66,8 +66,8 @@ judged bs at (a ∷ s ∷ t ∷ fl ∷ more) h = one (eqb (n % 2) 1 || ltb n 4) 
     rest = drop (n - 4) more
 
     three : length (take (n - 4) more) ≡ n - 4 → n % 2 ≡ 0 → 4 ≤ n → n ≤ length b → (o : Option ℕ) → Outcome (Passes bs b) rule_checks o → StepTruth false bs b at (settle (look_back bs) at r rest o)
-    three l ev le ins none y = (refl, (omega arith, (omega arith, ((ev, le), (ins, y)))), omega arith, refl)
-    three l ev le ins (some m) y =
+    three l ev le ins None y = (refl, (omega arith, (omega arith, ((ev, le), (ins, y)))), omega arith, refl)
+    three l ev le ins (Some m) y =
         (refl, record { check = y.0; number = y.1; first = first-later (omega arith) (first-later (omega arith) (first-later (ev, le) (first-later ins y.2))) })
 
     two : (z : Bool) → ltb (length more) (n - 4) ≡ z → n % 2 ≡ 0 → 4 ≤ n → StepTruth false bs b at (judge (look_back bs) at (cond z (bad 4) (found r rest)))
@@ -150,10 +150,10 @@ module _ (f : List ℕ) (h : Bytes f) where
   Going k = (bs : List RecordBefore) (at : ℕ) → GoodUpTo f bs at → at ≤ length f → length (drop at f) ≤ k → Told k (look_back bs) at (drop at f)
 
   stopped : (bs : List RecordBefore) (at : ℕ) → GoodUpTo f bs at → at ≤ length f → (v : Verdict) → StepTruth (end_before bs) bs (drop at f) at (stop v) → True f v
-  stopped bs at g l accepted s = record { before = bs; good = subst (GoodUpTo f bs) (let z = s.1 in omega (arith, length-drop at f)) g; last = s.0 }
-  stopped bs at g l (refused n p) s =
+  stopped bs at g l (Ok _) s = record { before = bs; good = subst (GoodUpTo f bs) (let z = s.1 in omega (arith, length-drop at f)) g; last = s.0 }
+  stopped bs at g l (Err r) s =
       let x = s.1 in
-      inr (subst (Stopped f n) (sym s.0) (record { before = bs; earlier = g; check = x.check; number = x.number; first = x.first }))
+      inr (subst (Stopped f r.number) (sym s.0) (record { before = bs; earlier = g; check = x.check; number = x.number; first = x.first }))
 
   went : (k : ℕ) → Going k → (bs : List RecordBefore) (at : ℕ) → GoodUpTo f bs at → at ≤ length f → length (drop at f) ≤ suc k → (p : Placed) (rest : List ℕ) → StepTruth (end_before bs) bs (drop at f) at (go p rest) → StepAt (drop at f) (look_back bs) at (go p rest) → Told k (context_after p) (p.at + size p.rec) rest
   unfolding context_after

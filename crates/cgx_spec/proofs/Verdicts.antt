@@ -1,18 +1,17 @@
 -- Every file is accepted or refused with a number from 1 to 13, and every step is refused with 3 to 13 or 16: the walk has steps enough.
+use Rattle.std.specs.Prelude.{None, Option, Some, Ok, Err}
 use mathlib.Core.Path.{refl}
 use mathlib.Core.Bool.{Bool, true, false, ◌&&◌, ◌||◌, cond}
 use mathlib.Core.List.{List, [], ◌∷◌}
-use mathlib.Core.Option.{Option, none, some}
 use Prim.Native.Nat.{ℕ, zero, suc, ◌+◌, ◌*◌, ◌%◌, ◌-◌, ◌≤◌, ◌<◌}
 use native.Mathlib.Omega.{arith}
 use lib.Dec.{ltb, eqb}
 use lib.ListN.{length, take, drop, length-drop}
 use Rattle.cgx_spec.specs.declared.Kind.{Kind}
 use Rattle.cgx_spec.specs.declared.Context.{Context}
-use Rattle.cgx_spec.specs.declared.Offset.TheVariants.{Nowhere}
 use Rattle.cgx_spec.specs.declared.Place.{Place}
-use Rattle.cgx_spec.specs.declared.Verdict.{Verdict}
-use Rattle.cgx_spec.specs.declared.Verdict.TheVariants.{Accepted as accepted, Refused as refused}
+use Rattle.cgx_spec.specs.Verdicts.{Verdict}
+use Rattle.cgx_spec.specs.Verdicts.{accepted, refused}
 use Rattle.cgx_spec.specs.Kinds.{kind_of}
 use Rattle.cgx_spec.specs.Order.{start, allowed}
 use Rattle.cgx_spec.specs.Records.{Rec, size, Rule, broken, rules, fault_of, context_after, view_of}
@@ -23,8 +22,8 @@ use Rattle.cgx_spec.specs.Demands.{NamedFrom, AnswerNamed}
 -- ---- a record
 
 abbrev NamedRule : Option ℕ → Type 0
-NamedRule none = Unit {0}
-NamedRule (some n) = (3 ≤ n) × (n ≤ 13)
+NamedRule None = Unit {0}
+NamedRule (Some n) = (3 ≤ n) × (n ≤ 13)
 
 abbrev NamedRules : List Rule → Type 0
 NamedRules [] = Unit {0}
@@ -35,14 +34,14 @@ unfolding broken
 broken-named [] h = tt
 broken-named (r ∷ rs) h = go r.kept (broken-named rs h.2)
   where
-    go : (z : Bool) → NamedRule (broken rs) → NamedRule (cond z (broken rs) (some r.number))
+    go : (z : Bool) → NamedRule (broken rs) → NamedRule (cond z (broken rs) (Some r.number))
     go true ih = ih
     go false ih = (h.0, h.1)
 
 rules-named : (here : Bool) (o : Option Kind) (r : Rec) → NamedRules (rules here o r)
 unfolding rules
-rules-named here none r = omega arith
-rules-named here (some k) r = omega arith
+rules-named here None r = omega arith
+rules-named here (Some k) r = omega arith
 
 -- ---- a step
 
@@ -72,8 +71,8 @@ unfolding step judge settle finish
 step-named c at bs = one c.ended bs (cut bs) (cut-named bs)
   where
     three : (bs : List ℕ) (r : Rec) (rest : List ℕ) → length rest < length bs → (o : Option ℕ) → NamedRule o → StepNamed bs (settle c at r rest o)
-    three bs r rest h none n = h
-    three bs r rest h (some m) n = n
+    three bs r rest h None n = h
+    three bs r rest h (Some m) n = n
 
     two : (bs : List ℕ) (x : Cut) → CutNamed bs x → StepNamed bs (judge c at x)
     two bs (bad n) h = h
@@ -90,8 +89,8 @@ step-named c at bs = one c.ended bs (cut bs) (cut-named bs)
 -- ---- a walk
 
 late : (v : Verdict) → NamedFrom 3 v → NamedFrom 1 v
-late accepted h = tt
-late (refused n p) h = omega arith
+late (Ok _) h = tt
+late (Err r) h = omega arith
 
 walk-named : (k : ℕ) (bs : List ℕ) (st : Step) → StepNamed bs st → length bs ≤ k → NamedFrom 1 (walk k st).verdict
 unfolding walk
@@ -121,8 +120,8 @@ begin-named (a ∷ b ∷ c ∷ l ∷ bs) = go (eqb a 99 && eqb b 103 && eqb c 12
 
 ending-named : (v : Verdict) → NamedFrom 3 v → AnswerNamed (ending v)
 unfolding ending
-ending-named accepted h = tt
-ending-named (refused n p) h = h
+ending-named (Ok _) h = tt
+ending-named (Err r) h = h
 
 answer-named : (k : ℕ) (bs : List ℕ) (st : Step) → StepNamed bs st → length bs ≤ k → AnswerNamed (answer k st)
 unfolding answer
@@ -132,14 +131,14 @@ answer-named zero bs (go p rest) h l = absurd (omega arith)
 answer-named (suc k) bs (go p rest) h l =
     one (kind_of p.rec.type) (answer-named k rest (step (context_after p) (p.at + size p.rec) rest) (step-named (context_after p) (p.at + size p.rec) rest) (omega arith))
   where
-    one : (o : Option Kind) → AnswerNamed (answer k (step (context_after p) (p.at + size p.rec) rest)) → AnswerNamed (elim o [ none ↦ answer k (step (context_after p) (p.at + size p.rec) rest) | some kd ↦ seen (view_of kd p) (place_after p) ])
-    one none ih = ih
-    one (some kd) ih = tt
+    one : (o : Option Kind) → AnswerNamed (answer k (step (context_after p) (p.at + size p.rec) rest)) → AnswerNamed (elim o [ None ↦ answer k (step (context_after p) (p.at + size p.rec) rest) | Some kd ↦ seen (view_of kd p) (place_after p) ])
+    one None ih = ih
+    one (Some kd) ih = tt
 
 pub steps-named : (f : List ℕ) (p : Place) → AnswerNamed (step_of f p)
 unfolding step_of
 steps-named f p = go (forged (length f) p)
   where
-    go : (z : Bool) → AnswerNamed (cond z (refused_at 16 Nowhere) (answer (length f) (step p.context p.at (drop p.at f))))
+    go : (z : Bool) → AnswerNamed (cond z (refused_at 16 None) (answer (length f) (step p.context p.at (drop p.at f))))
     go true = refl
     go false = answer-named (length f) (drop p.at f) (step p.context p.at (drop p.at f)) (step-named p.context p.at (drop p.at f)) (omega (arith, length-drop p.at f))

@@ -1,13 +1,12 @@
 -- 01's refusals 1 to 13 as single checks, each stated by itself from 01's words (with `Restated`, and not by the walk that gives the verdict), and when a
 -- verdict is true by them. `Demands` says that the verdict on every file is true, and no other. Definitions only.
-use Rattle.std.specs.Prelude.{◌≡◌, ◌⊎◌, Bool, true, false, not, ◌||◌, cond, List, [], ◌∷◌, ◌++◌, ℕ, ◌+◌, ◌*◌, ◌-◌, ◌%◌, ◌≤◌, eqb, pos, length, take, drop, get_or, ◌≤ℤ◌, ◌<ℤ◌}
+use Rattle.std.specs.Prelude.{◌≡◌, ◌⊎◌, Bool, true, false, not, ◌||◌, cond, List, [], ◌∷◌, ◌++◌, ℕ, ◌+◌, ◌*◌, ◌-◌, ◌%◌, ◌≤◌, eqb, pos, length, take, drop, get_or, ◌≤ℤ◌, ◌<ℤ◌, None, Ok, Err}
 use Rattle.cgx_spec.specs.declared.Kind.{Kind}
 use Rattle.cgx_spec.specs.declared.Kind.TheVariants.{Library, Struct, Cprpty, Property, Layer, Box, Poly, Wire, Text, Sref, Endlib}
-use Rattle.cgx_spec.specs.declared.Offset.TheVariants.{Nowhere}
 use Rattle.cgx_spec.specs.declared.Need.{Need}
 use Rattle.cgx_spec.specs.declared.Need.TheVariants.{LibraryBefore, NoLibraryBefore, OpenCell, LayerInForce, NoneAwaiting, OnlyCprpty}
-use Rattle.cgx_spec.specs.declared.Verdict.{Verdict}
-use Rattle.cgx_spec.specs.declared.Verdict.TheVariants.{Accepted as accepted, Refused as refused}
+use Rattle.cgx_spec.specs.Verdicts.{Verdict}
+use Rattle.cgx_spec.specs.Verdicts.{accepted, refused}
 use Rattle.cgx_spec.specs.Numbers.{long_of, longs_of}
 use Rattle.cgx_spec.specs.Reals.{real_of}
 use Rattle.cgx_spec.specs.Fields.{All}
@@ -69,8 +68,8 @@ asks OnlyCprpty t = one_of (Cprpty ∷ []) t
 abbrev pub Met : List RecordBefore → Need → Type 0
 Met bs LibraryBefore = library_before bs ≡ true
 Met bs NoLibraryBefore = library_before bs ≡ false
-Met bs OpenCell = cell_before bs ≡ Nowhere → ⊥
-Met bs LayerInForce = layer_before bs ≡ Nowhere → ⊥
+Met bs OpenCell = cell_before bs ≡ None → ⊥
+Met bs LayerInForce = layer_before bs ≡ None → ⊥
 Met bs NoneAwaiting = properties_before bs ≡ []
 Met bs OnlyCprpty = struct_before bs ≡ true
 
@@ -241,5 +240,5 @@ pub record Stopped (f : List ℕ) (n at : ℕ) : Type 0 where
 
 -- The verdict is true of the file.
 abbrev pub True : List ℕ → Verdict → Type 0
-True f accepted = AllGood f
-True f (refused n at) = NotBegun f n at ⊎ Stopped f n at
+True f (Ok _) = AllGood f
+True f (Err r) = NotBegun f r.number r.at ⊎ Stopped f r.number r.at

@@ -1,16 +1,13 @@
 -- What is proved of the definitions: start here. Each field is one sentence of the papers, in the order 1 to 3 of the demands; `Promises` holds them all, and
 -- proofs/Promises.antt proves it. Statements only.
-use Rattle.std.specs.Prelude.{◌≡◌, ◌↔◌, Bool, true, cond, List, [], ◌∷◌, ◌++◌, map, ℕ, ◌+◌, ◌/◌, ◌%◌, ◌^◌, ◌≤◌, ◌<◌, T, leb, Float, ℤ, pos, length, set}
-use Rattle.std.proofs.Math.Option.{none, some}
+use Rattle.std.specs.Prelude.{◌≡◌, ◌↔◌, Bool, true, cond, List, [], ◌∷◌, ◌++◌, map, ℕ, ◌+◌, ◌/◌, ◌%◌, ◌^◌, ◌≤◌, ◌<◌, T, leb, Float, ℤ, pos, length, set, None, Some, Ok, Err, slice_get}
 use Rattle.std.specs.Int.Count.{count_trailing_zeros}
 use Rattle.std.specs.Float.{fin, binary64}
 use Rattle.std.specs.Float.Ieee.{fits}
-use Rattle.std.proofs.Math.ListN.{get_elem?}
 use Rattle.cgx_spec.specs.declared.Kind.{Kind}
-use Rattle.cgx_spec.specs.declared.Offset.TheVariants.{Nowhere, At}
 use Rattle.cgx_spec.specs.declared.Place.{Place}
-use Rattle.cgx_spec.specs.declared.Verdict.{Verdict}
-use Rattle.cgx_spec.specs.declared.Verdict.TheVariants.{Accepted as accepted, Refused as refused}
+use Rattle.cgx_spec.specs.Verdicts.{Verdict}
+use Rattle.cgx_spec.specs.Verdicts.{accepted, refused}
 use Rattle.cgx_spec.specs.declared.Real.TheVariants.{Exact, Inexact}
 use Rattle.cgx_spec.specs.Numbers.{Bytes, short_of, long_of, longs_of, InRange, short_bytes, long_bytes}
 use Rattle.cgx_spec.specs.Reals.{negative, exponent, mantissa, value, normal, IsNormal, answer, Means, answer_value}
@@ -31,15 +28,15 @@ use Rattle.cgx_spec.specs.Specimens.{Holds, specimens, Drawing, leap_seconds}
 
 -- A refusal's number is in 01's table, from `lo` on.
 abbrev pub NamedFrom : ℕ → Verdict → Type 0
-NamedFrom lo accepted = Unit {0}
-NamedFrom lo (refused n p) = (lo ≤ n) × (n ≤ 13)
+NamedFrom lo (Ok _) = Unit {0}
+NamedFrom lo (Err r) = (lo ≤ r.number) × (r.number ≤ 13)
 
 -- A refused step names no place with 16, and a place with 3 to 13.
 abbrev pub AnswerNamed : Answer → Type 0
 AnswerNamed (seen v p) = Unit {0}
 AnswerNamed done = Unit {0}
-AnswerNamed (refused_at n Nowhere) = n ≡ 16
-AnswerNamed (refused_at n (At p)) = (3 ≤ n) × (n ≤ 13)
+AnswerNamed (refused_at n None) = n ≡ 16
+AnswerNamed (refused_at n (Some p)) = (3 ≤ n) × (n ≤ 13)
 
 pub record Verdicts : Type 0 where
   -- Every file is accepted, or refused with a number from 1 to 13.
@@ -112,13 +109,13 @@ pub record RealPromises : Type 0 where
 abbrev pub LooksBack : List RecordBefore → List Placed → Type 0
 LooksBack bs [] = Unit {0}
 LooksBack bs (p ∷ ps) =
-    (p.context ≡ look_back bs) × LooksBack (elim (kind_of p.rec.type) [ none ↦ bs | some k ↦ record { kind = k; at = p.at } ∷ bs ]) ps
+    (p.context ≡ look_back bs) × LooksBack (elim (kind_of p.rec.type) [ None ↦ bs | Some k ↦ record { kind = k; at = p.at } ∷ bs ]) ps
 
 pub record Agreement : Type 0 where
   -- The kinds are those of 01's type bytes, which are also those that are written, and no other type has one.
-  pub types : (k : Kind) → kind_of (type_byte k) ≡ some k
+  pub types : (k : Kind) → kind_of (type_byte k) ≡ Some k
   pub types-written : (k : Kind) → type_for k ≡ type_byte k
-  pub unknown : (t : ℕ) → 11 ≤ t → kind_of t ≡ none
+  pub unknown : (t : ℕ) → 11 ≤ t → kind_of t ≡ None
   -- The fields of a record fit exactly when its size is one that 01 gives for its kind.
   pub sizes : (k : Kind) (r : Rec) → length r.body % 2 ≡ 0 → length r.body ≤ 65530 → lengths_fit (pieces_of k r) ≡ good_size k r.flags (size r)
   -- Flags are allowed up to 01's highest, and are alike where 01 says so.
@@ -130,7 +127,7 @@ pub record Agreement : Type 0 where
   -- The context of every record, in every file, is what the records before it say.
   pub contexts : (f : List ℕ) → LooksBack [] (walk_of f).records
   -- Same meaning is "equally many records and, for every k," the same meaning of the k-th.
-  pub each : (f g : List ℕ) → let ms = meanings (sequence f) in let ns = meanings (sequence g) in SameMeaning f g ↔ ((length ms ≡ length ns) × ((k : ℕ) → get_elem? ms k ≡ get_elem? ns k))
+  pub each : (f g : List ℕ) → let ms = meanings (sequence f) in let ns = meanings (sequence g) in SameMeaning f g ↔ ((length ms ≡ length ns) × ((k : ℕ) → slice_get ms k ≡ slice_get ns k))
 
 -- ---- Req 02: "Seconds 0 to 60 are accepted in all dates, by reader and writer; 61 is refused with 9." (The writer: `GivenSeconds` in `cgx_write_given`.)
 
@@ -139,7 +136,7 @@ pub record Seconds : Type 0 where
   pub date : (b : List ℕ) → length b ≡ 8 → good_date b ≡ true → (s : ℕ) → good_date (set b 6 s) ≡ leb s 60
   -- So does an accepted file: with a byte s as the second of any date of any of its records it is accepted up to 60, and else refused with 9 at that record.
   pub file : (f : List ℕ) → Bytes f → Accepted f → (earlier : List Rec) (r : Rec) (later : List Rec) → records_of f ≡ earlier ++ (r ∷ later)
-      → (k : Kind) → kind_of r.type ≡ some k → (s : ℕ) → s < 256
+      → (k : Kind) → kind_of r.type ≡ Some k → (s : ℕ) → s < 256
       → let at = 4 + length (join bytes_of earlier) in All (λ date. verdict_of (set f (at + date + 6) s) ≡ cond (leb s 60) accepted (refused 9 at)) (dates_at k)
   -- A drawing with second 60 in each of its four dates is its own normal form, and with 61 it is refused.
   pub specimens : All Holds leap_seconds

@@ -1,10 +1,9 @@
 -- Whole files: records cut from the bytes, the verdict with refusals 1 to 13, the sequence, its meaning, and the normal form. Definitions only.
-use Rattle.std.specs.Prelude.{◌≡◌, ◌&&◌, ◌||◌, cond, List, [], ◌∷◌, ◌++◌, map, ℕ, zero, suc, ◌+◌, ◌*◌, ◌%◌, ◌-◌, ltb, eqb, length, take, drop}
-use Rattle.std.proofs.Math.Option.{Option, none, some}
+use Rattle.std.specs.Prelude.{◌≡◌, ◌&&◌, ◌||◌, cond, List, [], ◌∷◌, ◌++◌, map, ℕ, zero, suc, ◌+◌, ◌*◌, ◌%◌, ◌-◌, ltb, eqb, length, take, drop, None, Option, Some}
 use Rattle.cgx_spec.specs.declared.Kind.{Kind}
 use Rattle.cgx_spec.specs.declared.Context.{Context}
-use Rattle.cgx_spec.specs.declared.Verdict.{Verdict}
-use Rattle.cgx_spec.specs.declared.Verdict.TheVariants.{Accepted as accepted, Refused as refused}
+use Rattle.cgx_spec.specs.Verdicts.{Verdict}
+use Rattle.cgx_spec.specs.Verdicts.{accepted, refused}
 use Rattle.cgx_spec.specs.Fields.{join}
 use Rattle.cgx_spec.specs.Kinds.{kind_of}
 use Rattle.cgx_spec.specs.Order.{start}
@@ -41,8 +40,8 @@ pub data Step : Type 0 where
   go : Placed → List ℕ → Step
 
 unfoldable pub settle : Context → ℕ → Rec → List ℕ → Option ℕ → Step
-settle c at r bs none = go (record { at = at; context = c; rec = r }) bs
-settle c at r bs (some n) = stop (refused n at)
+settle c at r bs None = go (record { at = at; context = c; rec = r }) bs
+settle c at r bs (Some n) = stop (refused n at)
 
 unfoldable pub judge : Context → ℕ → Cut → Step
 judge c at (bad n) = stop (refused n at)
@@ -118,8 +117,8 @@ pub record Known : Type 0 where
   pub rec : Rec
 
 abbrev pub if_known : Option Kind → Rec → List Known → List Known
-if_known none r l = l
-if_known (some k) r l = record { kind = k; rec = r } ∷ l
+if_known None r l = l
+if_known (Some k) r l = record { kind = k; rec = r } ∷ l
 
 unfoldable pub known : List Rec → List Known
 known [] = []
@@ -148,8 +147,8 @@ normal_form f = take 4 f ++ join bytes_of (normals (sequence f))
 -- ---- views
 
 abbrev pub if_seen : Option Kind → Placed → List View → List View
-if_seen none p l = l
-if_seen (some k) p l = view_of k p ∷ l
+if_seen None p l = l
+if_seen (Some k) p l = view_of k p ∷ l
 
 unfoldable pub views : List Placed → List View
 views [] = []

@@ -1,14 +1,13 @@
 -- 01, "The eleven records": the kinds by their type bytes, their flags, and the fields of their bodies. Definitions only.
-use Rattle.std.specs.Prelude.{Bool, true, cond, List, [], ◌∷◌, ℕ, ◌+◌, ◌*◌, ◌/◌, ◌%◌, leb, eqb}
-use Rattle.std.proofs.Math.Option.{Option}
-use Rattle.std.proofs.Math.ListN.{get_elem?}
+use Rattle.std.specs.Prelude.{◌≡◌, Bool, true, cond, List, [], ◌∷◌, ℕ, ◌+◌, ◌*◌, ◌/◌, ◌%◌, leb, eqb, slice_get, Option, None, Some, Result, MatchResult}
 use Rattle.cgx_spec.specs.declared.Kind.{Kind}
 use Rattle.cgx_spec.specs.declared.Kind.TheVariants.{Library, Struct, Cprpty, Property, Layer, Box, Poly, Wire, Text, Sref, Endlib}
+use Rattle.cgx_spec.specs.declared.UnknownType.{UnknownType}
 use Rattle.cgx_spec.specs.Fields.{any, counts, ordered, closed, Field, real, positive, date, short, longs, string, optional, absent}
 
 -- The kinds in the order of their type bytes, 0 to 10. "Types 11 to 255 are unknown."
 unfoldable pub kind_of : ℕ → Option Kind
-kind_of t = get_elem? (Library ∷ Struct ∷ Cprpty ∷ Property ∷ Layer ∷ Box ∷ Poly ∷ Wire ∷ Text ∷ Sref ∷ Endlib ∷ []) t
+kind_of t = slice_get (Library ∷ Struct ∷ Cprpty ∷ Property ∷ Layer ∷ Box ∷ Poly ∷ Wire ∷ Text ∷ Sref ∷ Endlib ∷ []) t
 
 -- The type byte of a kind.
 abbrev pub type_for : Kind → ℕ
@@ -23,6 +22,10 @@ type_for Wire = 7
 type_for Text = 8
 type_for Sref = 9
 type_for Endlib = 10
+
+-- What the conversion of a type byte gives: the kind that it is, or the byte itself where it is none.
+abbrev pub Converts : ℕ → Result Kind UnknownType → Type 0
+Converts t r = MatchResult r (λ k. kind_of t ≡ Some k) (λ e. (kind_of t ≡ None) × (e.0 ≡ t))
 
 -- ---- flags
 

@@ -8,6 +8,7 @@ pub mod Strings
 pub mod Fields
 pub mod Kinds
 pub mod Order
+pub mod Verdicts
 pub mod Records
 pub mod Files
 pub mod Walking

@@ -1,12 +1,8 @@
 -- 01, "Sequence and context": what a record needs of the records before it (rule 6), and what follows from it for those after it. Definitions only.
-use Rattle.std.specs.Prelude.{Bool, true, false, not, List, [], ◌∷◌, ℕ, ◌+◌}
-use Rattle.std.proofs.Math.Option.{Option, none, some}
+use Rattle.std.specs.Prelude.{Bool, true, false, not, List, [], ◌∷◌, ℕ, ◌+◌, None, Option, Some}
 use Rattle.cgx_spec.specs.declared.Kind.{Kind}
 use Rattle.cgx_spec.specs.declared.Kind.TheVariants.{Library, Struct, Cprpty, Property, Layer, Box, Poly, Wire, Text, Sref, Endlib}
-use Rattle.cgx_spec.specs.declared.Offset.{Offset}
-use Rattle.cgx_spec.specs.declared.Offset.TheVariants.{Nowhere, At}
 use Rattle.cgx_spec.specs.declared.Run.{Run}
-use Rattle.cgx_spec.specs.declared.Run.TheVariants.{Empty, Of}
 use Rattle.cgx_spec.specs.declared.Context.{Context}
 use Rattle.cgx_spec.specs.declared.Need.{Need}
 use Rattle.cgx_spec.specs.declared.Need.TheVariants.{LibraryBefore, NoLibraryBefore, OpenCell, LayerInForce, NoneAwaiting, OnlyCprpty}
@@ -14,17 +10,17 @@ use Rattle.cgx_spec.specs.Fields.{every}
 
 -- Nothing has been read.
 unfoldable pub start : Context
-start = record { library = false; cell = Nowhere; layer = Nowhere; fresh = false; run = Empty; ended = false }
+start = record { library = false; cell = None; layer = None; fresh = false; run = None; ended = false }
 
 -- ---- needs
 
-abbrev pub present : Offset → Bool
-present Nowhere = false
-present (At p) = true
+abbrev pub present : Option ℕ → Bool
+present None = false
+present (Some p) = true
 
-abbrev pub awaiting : Run → Bool
-awaiting Empty = false
-awaiting (Of first count) = true
+abbrev pub awaiting : Option Run → Bool
+awaiting None = false
+awaiting (Some r) = true
 
 abbrev pub met : Context → Need → Bool
 -- "LIBRARY is first": "not even an unknown record may precede it"
@@ -42,18 +38,18 @@ met c OnlyCprpty = c.fresh
 
 -- What a record of this kind, or of an unknown type, needs, in the order of `Need`.
 abbrev pub needs_of : Option Kind → List Need
-needs_of none = LibraryBefore ∷ []
-needs_of (some Library) = NoLibraryBefore ∷ NoneAwaiting ∷ []
-needs_of (some Struct) = LibraryBefore ∷ NoneAwaiting ∷ []
-needs_of (some Cprpty) = LibraryBefore ∷ OpenCell ∷ NoneAwaiting ∷ OnlyCprpty ∷ []
-needs_of (some Property) = LibraryBefore ∷ OpenCell ∷ []
-needs_of (some Layer) = LibraryBefore ∷ OpenCell ∷ NoneAwaiting ∷ []
-needs_of (some Box) = LibraryBefore ∷ OpenCell ∷ LayerInForce ∷ []
-needs_of (some Poly) = LibraryBefore ∷ OpenCell ∷ LayerInForce ∷ []
-needs_of (some Wire) = LibraryBefore ∷ OpenCell ∷ LayerInForce ∷ []
-needs_of (some Text) = LibraryBefore ∷ OpenCell ∷ LayerInForce ∷ []
-needs_of (some Sref) = LibraryBefore ∷ OpenCell ∷ []
-needs_of (some Endlib) = LibraryBefore ∷ NoneAwaiting ∷ []
+needs_of None = LibraryBefore ∷ []
+needs_of (Some Library) = NoLibraryBefore ∷ NoneAwaiting ∷ []
+needs_of (Some Struct) = LibraryBefore ∷ NoneAwaiting ∷ []
+needs_of (Some Cprpty) = LibraryBefore ∷ OpenCell ∷ NoneAwaiting ∷ OnlyCprpty ∷ []
+needs_of (Some Property) = LibraryBefore ∷ OpenCell ∷ []
+needs_of (Some Layer) = LibraryBefore ∷ OpenCell ∷ NoneAwaiting ∷ []
+needs_of (Some Box) = LibraryBefore ∷ OpenCell ∷ LayerInForce ∷ []
+needs_of (Some Poly) = LibraryBefore ∷ OpenCell ∷ LayerInForce ∷ []
+needs_of (Some Wire) = LibraryBefore ∷ OpenCell ∷ LayerInForce ∷ []
+needs_of (Some Text) = LibraryBefore ∷ OpenCell ∷ LayerInForce ∷ []
+needs_of (Some Sref) = LibraryBefore ∷ OpenCell ∷ []
+needs_of (Some Endlib) = LibraryBefore ∷ NoneAwaiting ∷ []
 
 -- Rule 6: a record is allowed where each of its needs is met.
 unfoldable pub allowed : Context → Option Kind → Bool
@@ -62,31 +58,31 @@ allowed c o = every (met c) (needs_of o)
 -- ---- what follows
 
 -- The run with one more PROPERTY, at this offset.
-abbrev pub longer : Run → ℕ → Run
-longer Empty at = Of at 1
-longer (Of first count) at = Of first (count + 1)
+abbrev pub longer : Option Run → ℕ → Option Run
+longer None at = Some (record { first = at; count = 1 })
+longer (Some r) at = Some (record { first = r.first; count = r.count + 1 })
 
 -- An object "takes the whole run; the next object starts with none".
 abbrev pub after_object : Context → Context
-after_object c = record { library = c.library; cell = c.cell; layer = c.layer; fresh = false; run = Empty; ended = false }
+after_object c = record { library = c.library; cell = c.cell; layer = c.layer; fresh = false; run = None; ended = false }
 
 -- The context after a record at this offset. Of unknown types "these rules read as if they were absent".
 abbrev pub next : Context → ℕ → Option Kind → Context
-next c at none = c
-next c at (some Library) = record { library = true; cell = Nowhere; layer = Nowhere; fresh = false; run = Empty; ended = false }
+next c at None = c
+next c at (Some Library) = record { library = true; cell = None; layer = None; fresh = false; run = None; ended = false }
 -- "STRUCT opens a cell and clears the layer."
-next c at (some Struct) = record { library = c.library; cell = At at; layer = Nowhere; fresh = true; run = Empty; ended = false }
-next c at (some Cprpty) = record { library = c.library; cell = c.cell; layer = c.layer; fresh = c.fresh; run = Empty; ended = false }
-next c at (some Property) =
+next c at (Some Struct) = record { library = c.library; cell = Some at; layer = None; fresh = true; run = None; ended = false }
+next c at (Some Cprpty) = record { library = c.library; cell = c.cell; layer = c.layer; fresh = c.fresh; run = None; ended = false }
+next c at (Some Property) =
     record { library = c.library; cell = c.cell; layer = c.layer; fresh = false; run = longer c.run at; ended = false }
-next c at (some Layer) = record { library = c.library; cell = c.cell; layer = At at; fresh = false; run = Empty; ended = false }
-next c at (some Box) = after_object c
-next c at (some Poly) = after_object c
-next c at (some Wire) = after_object c
-next c at (some Text) = after_object c
-next c at (some Sref) = after_object c
+next c at (Some Layer) = record { library = c.library; cell = c.cell; layer = Some at; fresh = false; run = None; ended = false }
+next c at (Some Box) = after_object c
+next c at (Some Poly) = after_object c
+next c at (Some Wire) = after_object c
+next c at (Some Text) = after_object c
+next c at (Some Sref) = after_object c
 -- "ENDLIB is last" and "has the cell and layer then open".
-next c at (some Endlib) = record { library = c.library; cell = c.cell; layer = c.layer; fresh = false; run = Empty; ended = true }
+next c at (Some Endlib) = record { library = c.library; cell = c.cell; layer = c.layer; fresh = false; run = None; ended = true }
 
 -- The kinds that take a run: the objects.
 abbrev pub is_object : Kind → Bool

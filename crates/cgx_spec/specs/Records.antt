@@ -1,10 +1,7 @@
 -- One record: its bytes, its meaning and normal form, the rules 6 to 12, and its view. Definitions only.
-use Rattle.std.specs.Prelude.{Bool, cond, List, [], ◌∷◌, ℕ, ◌+◌, ◌/◌, ◌%◌, length}
-use Rattle.std.proofs.Math.Option.{Option, none, some}
+use Rattle.std.specs.Prelude.{Bool, cond, List, [], ◌∷◌, ℕ, ◌+◌, ◌/◌, ◌%◌, length, None, Option, Some}
 use Rattle.cgx_spec.specs.declared.Kind.{Kind}
-use Rattle.cgx_spec.specs.declared.Offset.{Offset}
 use Rattle.cgx_spec.specs.declared.Run.{Run}
-use Rattle.cgx_spec.specs.declared.Run.TheVariants.{Empty}
 use Rattle.cgx_spec.specs.declared.Context.{Context}
 use Rattle.cgx_spec.specs.Fields.{Value, Piece, pieces, lengths_fit, keeps, values, normal_bytes}
 use Rattle.cgx_spec.specs.Kinds.{kind_of, good_flags, flags_of, layout}
@@ -51,16 +48,16 @@ rule n b = record { number = n; kept = b }
 
 -- The number of the first rule that is not kept.
 unfoldable pub broken : List Rule → Option ℕ
-broken [] = none
-broken (r ∷ rs) = cond r.kept (broken rs) (some r.number)
+broken [] = None
+broken (r ∷ rs) = cond r.kept (broken rs) (Some r.number)
 
 abbrev pub field_rules : List Piece → List Rule
 field_rules ps = rule 8 (lengths_fit ps) ∷ rule 9 (keeps 9 ps) ∷ rule 10 (keeps 10 ps) ∷ rule 11 (keeps 11 ps) ∷ rule 12 (keeps 12 ps) ∷ []
 
 -- Of a record that is allowed where it is, or is not (rule 6). Nothing more is asked of an unknown one.
 unfoldable pub rules : Bool → Option Kind → Rec → List Rule
-rules here none r = rule 6 here ∷ []
-rules here (some k) r = rule 6 here ∷ rule 7 (good_flags k r.flags) ∷ field_rules (pieces_of k r)
+rules here None r = rule 6 here ∷ []
+rules here (Some k) r = rule 6 here ∷ rule 7 (good_flags k r.flags) ∷ field_rules (pieces_of k r)
 
 -- The number of the first rule that a record breaks after this context.
 abbrev pub fault_of : Context → Rec → Option ℕ
@@ -83,9 +80,9 @@ pub record View : Type 0 where
   pub flags : ℕ
   pub fields : List Value
   pub at : ℕ
-  pub cell : Offset
-  pub layer : Offset
-  pub run : Run
+  pub cell : Option ℕ
+  pub layer : Option ℕ
+  pub run : Option Run
 
 -- "STRUCT and LAYER count as their own"; "Only BOX, POLY, WIRE, TEXT and SREF have a run".
 unfoldable pub view_of : Kind → Placed → View
@@ -97,7 +94,7 @@ view_of k p =
       at = p.at;
       cell = (context_after p).cell;
       layer = (context_after p).layer;
-      run = cond (is_object k) p.context.run Empty;
+      run = cond (is_object k) p.context.run None;
     }
 
 -- What the record of a view means.

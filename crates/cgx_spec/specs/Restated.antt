@@ -1,11 +1,8 @@
 -- 01's figures and rules stated a second time, from its words alone and not from the definitions; `Demands` says that the two agree. Definitions only.
-use Rattle.std.specs.Prelude.{◌≡◌, Bool, true, false, ◌&&◌, ◌||◌, cond, List, [], ◌∷◌, ◌++◌, ℕ, ◌+◌, ◌*◌, ◌/◌, ◌%◌, ◌-◌, ◌^◌, ◌≤◌, ◌<◌, leb, eqb, ℤ, length, get_or, ◌≤ℤ◌}
+use Rattle.std.specs.Prelude.{◌≡◌, Bool, true, false, ◌&&◌, ◌||◌, cond, List, [], ◌∷◌, ◌++◌, ℕ, ◌+◌, ◌*◌, ◌/◌, ◌%◌, ◌-◌, ◌^◌, ◌≤◌, ◌<◌, leb, eqb, ℤ, length, get_or, ◌≤ℤ◌, None, Option, Some}
 use Rattle.cgx_spec.specs.declared.Kind.{Kind}
 use Rattle.cgx_spec.specs.declared.Kind.TheVariants.{Library, Struct, Cprpty, Property, Layer, Box, Poly, Wire, Text, Sref, Endlib}
-use Rattle.cgx_spec.specs.declared.Offset.{Offset}
-use Rattle.cgx_spec.specs.declared.Offset.TheVariants.{Nowhere, At}
 use Rattle.cgx_spec.specs.declared.Run.{Run}
-use Rattle.cgx_spec.specs.declared.Run.TheVariants.{Empty, Of}
 use Rattle.cgx_spec.specs.declared.Context.{Context}
 
 -- ---- the table's columns
@@ -269,14 +266,14 @@ library_before [] = false
 library_before (b ∷ bs) = is Library b || library_before bs
 
 -- The nearest STRUCT.
-unfoldable pub cell_before : List RecordBefore → Offset
-cell_before [] = Nowhere
-cell_before (b ∷ bs) = cond (is Struct b) (At b.at) (cond (is Library b) Nowhere (cell_before bs))
+unfoldable pub cell_before : List RecordBefore → Option ℕ
+cell_before [] = None
+cell_before (b ∷ bs) = cond (is Struct b) (Some b.at) (cond (is Library b) None (cell_before bs))
 
 -- The nearest LAYER, unless a STRUCT is nearer.
-unfoldable pub layer_before : List RecordBefore → Offset
-layer_before [] = Nowhere
-layer_before (b ∷ bs) = cond (is Layer b) (At b.at) (cond (is Struct b || is Library b) Nowhere (layer_before bs))
+unfoldable pub layer_before : List RecordBefore → Option ℕ
+layer_before [] = None
+layer_before (b ∷ bs) = cond (is Layer b) (Some b.at) (cond (is Struct b || is Library b) None (layer_before bs))
 
 -- STRUCT, with nothing but CPRPTY nearer.
 unfoldable pub struct_before : List RecordBefore → Bool
@@ -293,9 +290,9 @@ unfoldable pub farthest : RecordBefore → List RecordBefore → ℕ
 farthest b [] = b.at
 farthest b (c ∷ bs) = farthest c bs
 
-unfoldable pub run_before : List RecordBefore → Run
-run_before [] = Empty
-run_before (b ∷ bs) = Of (farthest b bs) (length (b ∷ bs))
+unfoldable pub run_before : List RecordBefore → Option Run
+run_before [] = None
+run_before (b ∷ bs) = Some (record { first = farthest b bs; count = length (b ∷ bs) })
 
 unfoldable pub end_before : List RecordBefore → Bool
 end_before [] = false

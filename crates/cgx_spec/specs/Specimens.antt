@@ -1,8 +1,8 @@
 -- 01, "Specimens": those marked P as one list, and the file of 96 bytes under "Lister"; and that of Req 02. Statements only.
 use Rattle.std.specs.Prelude.{◌≡◌, true, false, List, [], ◌∷◌, ◌++◌, map, ℕ, ◌*◌, ◌^◌, ℤ, pos, negsuc, length}
 use Rattle.cgx_spec.specs.declared.Kind.TheVariants.{Text}
-use Rattle.cgx_spec.specs.declared.Verdict.{Verdict}
-use Rattle.cgx_spec.specs.declared.Verdict.TheVariants.{Accepted as accepted, Refused as refused}
+use Rattle.cgx_spec.specs.Verdicts.{Verdict}
+use Rattle.cgx_spec.specs.Verdicts.{accepted, refused}
 use Rattle.cgx_spec.specs.Numbers.{long_of}
 use Rattle.cgx_spec.specs.Reals.{real_of, normal_real}
 use Rattle.cgx_spec.specs.Dates.{good_date}

@@ -1,14 +1,10 @@
 -- 01, "Walking, writing, normal form": places, forged places, and a walk one known record at a time. Definitions only.
-use Rattle.std.specs.Prelude.{◌≡◌, Bool, true, not, ◌&&◌, cond, List, [], ◌∷◌, ℕ, zero, suc, ◌+◌, ◌*◌, ◌-◌, ◌%◌, ◌≤◌, ◌<◌, leb, eqb, length, take, drop, get_or}
-use Rattle.std.proofs.Math.Option.{none, some}
-use Rattle.cgx_spec.specs.declared.Offset.{Offset}
-use Rattle.cgx_spec.specs.declared.Offset.TheVariants.{Nowhere, At}
+use Rattle.std.specs.Prelude.{◌≡◌, Bool, true, not, ◌&&◌, cond, List, [], ◌∷◌, ℕ, zero, suc, ◌+◌, ◌*◌, ◌-◌, ◌%◌, ◌≤◌, ◌<◌, leb, eqb, length, take, drop, get_or, None, Option, Some, Ok, Err}
 use Rattle.cgx_spec.specs.declared.Run.{Run}
-use Rattle.cgx_spec.specs.declared.Run.TheVariants.{Empty, Of}
 use Rattle.cgx_spec.specs.declared.Context.{Context}
 use Rattle.cgx_spec.specs.declared.Place.{Place}
-use Rattle.cgx_spec.specs.declared.Verdict.{Verdict}
-use Rattle.cgx_spec.specs.declared.Verdict.TheVariants.{Accepted as accepted, Refused as refused}
+use Rattle.cgx_spec.specs.Verdicts.{Verdict}
+use Rattle.cgx_spec.specs.Verdicts.{accepted, refused}
 use Rattle.cgx_spec.specs.Kinds.{kind_of}
 use Rattle.cgx_spec.specs.Order.{start}
 use Rattle.cgx_spec.specs.Records.{Rec, size, Placed, context_after, View, view_of}
@@ -24,13 +20,13 @@ first_place = record { at = 4; context = start }
 unfoldable pub place_after : Placed → Place
 place_after p = record { at = p.at + size p.rec; context = context_after p }
 
-abbrev pub offset_up_to : ℕ → Offset → Bool
-offset_up_to at Nowhere = true
-offset_up_to at (At p) = leb p at
+abbrev pub offset_up_to : ℕ → Option ℕ → Bool
+offset_up_to at None = true
+offset_up_to at (Some p) = leb p at
 
-abbrev pub run_up_to : ℕ → Run → Bool
-run_up_to at Empty = true
-run_up_to at (Of first count) = leb first at && leb count at
+abbrev pub run_up_to : ℕ → Option Run → Bool
+run_up_to at None = true
+run_up_to at (Some r) = leb r.first at && leb r.count at
 
 -- 16: "its offset is below 4, odd or past the end, or .. any offset or count kept in it is above its own offset". n is the length of the file.
 unfoldable pub forged : ℕ → Place → Bool
@@ -44,23 +40,23 @@ forged n p =
 pub data Answer : Type 0 where
   seen : View → Place → Answer
   done : Answer
-  refused_at : ℕ → Offset → Answer
+  refused_at : ℕ → Option ℕ → Answer
 
 unfoldable pub ending : Verdict → Answer
-ending accepted = done
-ending (refused n p) = refused_at n (At p)
+ending (Ok _) = done
+ending (Err r) = refused_at r.number (Some r.at)
 
 -- Unknown records are "skipped".
 unfoldable pub answer : ℕ → Step → Answer
 answer zero (stop v) = ending v
 answer (suc n) (stop v) = ending v
-answer zero (go p bs) = refused_at 0 Nowhere
+answer zero (go p bs) = refused_at 0 None
 answer (suc n) (go p bs) =
-    elim (kind_of p.rec.type) [ none ↦ answer n (step (context_after p) (p.at + size p.rec) bs) | some k ↦ seen (view_of k p) (place_after p) ]
+    elim (kind_of p.rec.type) [ None ↦ answer n (step (context_after p) (p.at + size p.rec) bs) | Some k ↦ seen (view_of k p) (place_after p) ]
 
 -- A place "is refused first, with 16"; "a made-up place that passes is answered as though its context were true". A step does not look at the first four bytes.
 unfoldable pub step_of : List ℕ → Place → Answer
-step_of f p = cond (forged (length f) p) (refused_at 16 Nowhere) (answer (length f) (step p.context p.at (drop p.at f)))
+step_of f p = cond (forged (length f) p) (refused_at 16 None) (answer (length f) (step p.context p.at (drop p.at f)))
 
 -- ---- step after step
 
@@ -77,7 +73,7 @@ reads zero f done = record { views = []; last = done }
 reads (suc n) f done = record { views = []; last = done }
 reads zero f (refused_at m p) = record { views = []; last = refused_at m p }
 reads (suc n) f (refused_at m p) = record { views = []; last = refused_at m p }
-reads zero f (seen v p) = record { views = []; last = refused_at 0 Nowhere }
+reads zero f (seen v p) = record { views = []; last = refused_at 0 None }
 reads (suc n) f (seen v p) = and_then v (reads n f (step_of f p))
 
 -- ---- a record by its offset and size

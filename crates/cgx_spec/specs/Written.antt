@@ -1,6 +1,5 @@
 -- Records put into a file: good ones in an allowed order, and unknown ones added between them. Definitions only.
-use Rattle.std.specs.Prelude.{◌≡◌, true, false, List, [], ◌∷◌, ◌++◌, ℕ, ◌+◌, ◌%◌, ◌≤◌, ◌<◌, length, take}
-use Rattle.std.proofs.Math.Option.{none}
+use Rattle.std.specs.Prelude.{◌≡◌, true, false, List, [], ◌∷◌, ◌++◌, ℕ, ◌+◌, ◌%◌, ◌≤◌, ◌<◌, length, take, None}
 use Rattle.cgx_spec.specs.declared.Context.{Context}
 use Rattle.cgx_spec.specs.Numbers.{Bytes}
 use Rattle.cgx_spec.specs.Fields.{join}
@@ -20,7 +19,7 @@ pub record Sized (r : Rec) : Type 0 where
 -- The records are good one after another from this context on, and the last of them is ENDLIB.
 abbrev pub GoodFrom : Context → ℕ → List Rec → Type 0
 GoodFrom c at [] = c.ended ≡ true
-GoodFrom c at (r ∷ rs) = (c.ended ≡ false) × Sized r × (fault_of c r ≡ none) × GoodFrom (next c at (kind_of r.type)) (at + size r) rs
+GoodFrom c at (r ∷ rs) = (c.ended ≡ false) × Sized r × (fault_of c r ≡ None) × GoodFrom (next c at (kind_of r.type)) (at + size r) rs
 
 -- The records with the offsets and contexts that they have one after another.
 unfoldable pub place_all : Context → ℕ → List Rec → List Placed

@@ -61,14 +61,14 @@ fn open_named<R: Files>(files: &R, name: &[u8]) -> Option<R::File> {
     File::open(files, path).ok()
 }
 
-// No file is longer than the 4,096 bytes of the buffer.
+// No file is longer than the 4,096 bytes of the buffer (a rule of the project: no heap).
 fn show_file<P: Print, F: Read>(rt: &P, file: &mut F) -> io::Result<()> {
     let mut buf = [0u8; 4096];
     let n = read_full(file, &mut buf);
     show(rt, &buf[..n])
 }
 
-// Reads until the buffer is full, the input ends or a read fails: how many bytes are at its beginning then.
+// Reads until the buffer is full, the input ends or a read fails: how many bytes are at its beginning then. A loop of its own, as in cgx_list_io.
 fn read_full<F: Read>(file: &mut F, buf: &mut [u8]) -> usize
     ensures { result ≤ length buf.new }
 {

@@ -1,6 +1,6 @@
 // Numbers, texts, refusals and places. `then_` prints a space first. No contract can speak of what is printed: each function is safe
 // and ends, with an error where a write fails.
-use cgx_spec::Offset;
+use cgx_spec::Refusal;
 use std::io;
 
 pub fn print(rt: &impl Print, text: &[u8]) -> io::Result<()> {
@@ -22,17 +22,14 @@ pub fn quoted(rt: &impl Print, text: &[u8]) -> io::Result<()> {
     print(rt, b"\"\n")
 }
 
-pub fn show_refusal(rt: &impl Print, n: u8, at: Offset) -> io::Result<()> {
+pub fn show_refusal(rt: &impl Print, r: Refusal) -> io::Result<()> {
     print(rt, b"refused")?;
-    then_number(rt, n as u64)?;
-    match at {
-        Offset::Nowhere => print(rt, b"\n"),
-        Offset::At(place) => {
-            print(rt, b" at")?;
-            then_size(rt, place)?;
-            print(rt, b"\n")
-        }
+    then_number(rt, r.number as u64)?;
+    if let Some(place) = r.at {
+        print(rt, b" at")?;
+        then_size(rt, place)?;
     }
+    print(rt, b"\n")
 }
 
 pub fn show_place(rt: &impl Print, at: usize) -> io::Result<()> {

@@ -4,14 +4,14 @@ use cgx_format_cursor::Cursor;
 use cgx_format_kinds::Fields;
 use cgx_read_lists::text_bytes;
 use cgx_read_reader::{read_next, read_on};
-use cgx_read_walk::{Outcome, Started, start};
-use cgx_spec::Offset;
+use cgx_read_walk::{Outcome, start};
+use cgx_spec::Refusal;
 use std::io;
 
 pub fn show_reading(rt: &impl Print, file: &[u8]) -> io::Result<()> {
     match start(file) {
-        Started::Ready(place) => read_from(rt, file, place),
-        Started::Refused { number, at } => show_refusal(rt, number, Offset::At(at)),
+        Ok(place) => read_from(rt, file, place),
+        Err(refusal) => show_refusal(rt, Refusal::from(refusal)),
     }
 }
 
@@ -29,7 +29,7 @@ fn read_from(rt: &impl Print, file: &[u8], first: Cursor) -> io::Result<()> {
     print(rt, b"without end\n")
 }
 
-// Where a reader is after a step, and whether it was given a record.
+// Where a reader is after a step, and whether it was given a record. The place counts either way, so that an `Option` of it would not do.
 #[derive(Clone, Copy)]
 struct Shown {
     more: bool,
@@ -62,13 +62,9 @@ fn show_outcome(rt: &impl Print, file: &[u8], o: Outcome) -> io::Result<bool> {
             print(rt, b" done\n")?;
             Ok(false)
         }
-        Outcome::Refused {
-            number,
-            at,
-            place: _,
-        } => {
+        Outcome::Refused(refusal, _) => {
             print(rt, b" ")?;
-            show_refusal(rt, number, at)?;
+            show_refusal(rt, refusal)?;
             Ok(false)
         }
     }

@@ -1,15 +1,16 @@
-// The writer: one record a call, in normal form. A call plans, which only checks, and then stores, which cannot fail; it answers what the plan said.
+// The writer: one record a call, in normal form. A call plans, which only checks, and then stores, which cannot fail; it answers what the plan said. A refused call leaves
+// the buffer as it was.
 #![tactic(auto)]
 
 ghost use Rattle.std.specs.Prelude.{◌≡◌};
-ghost use Rattle.std.proofs.Math.Option.{none, some};
 ghost use Rattle.cgx_write_given.specs.Given.{given_library, given_struct, given_owned, given_cprpty, given_property, given_layer, given_box, given_poly, given_wire, given_text, given_sref, given_endlib};
 ghost use Rattle.cgx_write_given.specs.Typed.{WellTyped};
 ghost use Rattle.cgx_write_given.specs.Writing.{start_in, call_in};
 
 use buffers::put_bytes;
-use cgx_format_kinds::{DataType, Date, LayerNo, Point};
-use cgx_write_given::{Answer, EndStyle, Grid, Owner, Writer, all_longs};
+use cgx_format_kinds::{DataType, Date, Grid, LayerNo, Point};
+use cgx_spec::Fault;
+use cgx_write_given::{Answer, Owner, Writer, all_longs};
 use cgx_write_plans::{
     plan_box, plan_endlib, plan_layer, plan_library, plan_named, plan_poly, plan_property,
     plan_sref, plan_struct, plan_text, plan_wire,
@@ -20,16 +21,16 @@ use cgx_write_stores::{
 };
 use numbers::WordBytes;
 
-// Stores the four bytes that a file begins with, so that `Writer::start()` may go on; 14 where they do not fit.
-pub fn start(buf: &mut [u8]) -> u8
+// Stores the four bytes that a file begins with, and answers the writer after them; 14 where they do not fit.
+pub fn start(buf: &mut [u8]) -> Answer
     ensures { record { answer = result; buffer = buf.new } ≡ start_in buf.old }
 {
     if buf.len() < 4 {
-        return 14;
+        return Err(Fault::Room.nowhere());
     }
     let header = [99, 103, 120, 0];
     put_bytes(buf, 0, &header);
-    0
+    Ok(Writer::start())
 }
 
 // ---- the calls: what each gives is well typed, since its parameters have their types, so that the promises on the writer speak of it
@@ -48,7 +49,7 @@ pub fn library(
     ensures buf_after { record { answer = result; buffer = buf.new } ≡ call_in buf.old writer (given_library version munit uunit created modified name.now) }
     ensures typed { WellTyped (given_library version munit uunit created modified name.now) }
 {
-    let answer = plan_library(
+    let after = plan_library(
         buf.len(),
         writer,
         version,
@@ -57,15 +58,18 @@ pub fn library(
         created,
         modified,
         name,
-    );
-    if answer.number != 0 {
-        return answer;
-    }
-    let cursor = writer.cursor;
+    )?;
     store_library(
-        buf, cursor.at, version, munit, uunit, created, modified, name,
+        buf,
+        writer.cursor.at,
+        version,
+        munit,
+        uunit,
+        created,
+        modified,
+        name,
     );
-    answer
+    Ok(after)
 }
 
 // Appends a STRUCT, which opens a cell.
@@ -79,13 +83,9 @@ pub fn structure(
     ensures buf_after { record { answer = result; buffer = buf.new } ≡ call_in buf.old writer (given_struct created modified name.now) }
     ensures typed { WellTyped (given_struct created modified name.now) }
 {
-    let answer = plan_struct(buf.len(), writer, created, modified, name);
-    if answer.number != 0 {
-        return answer;
-    }
-    let cursor = writer.cursor;
-    store_struct(buf, cursor.at, created, modified, name);
-    answer
+    let after = plan_struct(buf.len(), writer, created, modified, name)?;
+    store_struct(buf, writer.cursor.at, created, modified, name);
+    Ok(after)
 }
 
 // Appends a CPRPTY: a property of the cell.
@@ -108,27 +108,19 @@ pub fn property(buf: &mut [u8], writer: Writer, number: i32, value: &[u8]) -> An
 fn owned(buf: &mut [u8], writer: Writer, owner: Owner, number: i32, value: &[u8]) -> Answer
     ensures { record { answer = result; buffer = buf.new } ≡ call_in buf.old writer (given_owned owner number value.now) }
 {
-    let answer = plan_property(buf.len(), writer, owner, number, value);
-    if answer.number != 0 {
-        return answer;
-    }
-    let cursor = writer.cursor;
-    store_property(buf, cursor.at, owner, number, value);
-    answer
+    let after = plan_property(buf.len(), writer, owner, number, value)?;
+    store_property(buf, writer.cursor.at, owner, number, value);
+    Ok(after)
 }
 
 // Appends a LAYER without a name.
 pub fn layer(buf: &mut [u8], writer: Writer, number: LayerNo, datatype: DataType) -> Answer
-    ensures buf_after { record { answer = result; buffer = buf.new } ≡ call_in buf.old writer (given_layer number datatype none) }
-    ensures typed { WellTyped (given_layer number datatype none) }
+    ensures buf_after { record { answer = result; buffer = buf.new } ≡ call_in buf.old writer (given_layer number datatype None) }
+    ensures typed { WellTyped (given_layer number datatype None) }
 {
-    let answer = plan_layer(buf.len(), writer, number, datatype);
-    if answer.number != 0 {
-        return answer;
-    }
-    let cursor = writer.cursor;
-    store_layer(buf, cursor.at, number, datatype);
-    answer
+    let after = plan_layer(buf.len(), writer, number, datatype)?;
+    store_layer(buf, writer.cursor.at, number, datatype);
+    Ok(after)
 }
 
 // Appends a LAYER with a name, which may be empty.
@@ -139,16 +131,12 @@ pub fn named_layer(
     datatype: DataType,
     name: &[u8],
 ) -> Answer
-    ensures buf_after { record { answer = result; buffer = buf.new } ≡ call_in buf.old writer (given_layer number datatype (some name.now)) }
-    ensures typed { WellTyped (given_layer number datatype (some name.now)) }
+    ensures buf_after { record { answer = result; buffer = buf.new } ≡ call_in buf.old writer (given_layer number datatype (Some name.now)) }
+    ensures typed { WellTyped (given_layer number datatype (Some name.now)) }
 {
-    let answer = plan_named(buf.len(), writer, number, datatype, name);
-    if answer.number != 0 {
-        return answer;
-    }
-    let cursor = writer.cursor;
-    store_named(buf, cursor.at, number, datatype, name);
-    answer
+    let after = plan_named(buf.len(), writer, number, datatype, name)?;
+    store_named(buf, writer.cursor.at, number, datatype, name);
+    Ok(after)
 }
 
 // Appends a BOX record: left, bottom, right, top of each box.
@@ -157,13 +145,9 @@ pub fn boxes(buf: &mut [u8], writer: Writer, sides: &[i32]) -> Answer
     ensures typed { WellTyped (given_box sides.now) }
 {
     all_longs(sides);
-    let answer = plan_box(buf.len(), writer, sides);
-    if answer.number != 0 {
-        return answer;
-    }
-    let cursor = writer.cursor;
-    store_box(buf, cursor.at, sides);
-    answer
+    let after = plan_box(buf.len(), writer, sides)?;
+    store_box(buf, writer.cursor.at, sides);
+    Ok(after)
 }
 
 // Appends a POLY: x and y of each point, the first again at the end.
@@ -172,28 +156,20 @@ pub fn poly(buf: &mut [u8], writer: Writer, points: &[i32]) -> Answer
     ensures typed { WellTyped (given_poly points.now) }
 {
     all_longs(points);
-    let answer = plan_poly(buf.len(), writer, points);
-    if answer.number != 0 {
-        return answer;
-    }
-    let cursor = writer.cursor;
-    store_poly(buf, cursor.at, points);
-    answer
+    let after = plan_poly(buf.len(), writer, points)?;
+    store_poly(buf, writer.cursor.at, points);
+    Ok(after)
 }
 
 // Appends a WIRE: x and y of each point.
-pub fn wire(buf: &mut [u8], writer: Writer, style: EndStyle, width: i32, points: &[i32]) -> Answer
+pub fn wire(buf: &mut [u8], writer: Writer, style: Option<u8>, width: i32, points: &[i32]) -> Answer
     ensures buf_after { record { answer = result; buffer = buf.new } ≡ call_in buf.old writer (given_wire style width points.now) }
     ensures typed { WellTyped (given_wire style width points.now) }
 {
     all_longs(points);
-    let answer = plan_wire(buf.len(), writer, style, width, points);
-    if answer.number != 0 {
-        return answer;
-    }
-    let cursor = writer.cursor;
-    store_wire(buf, cursor.at, style, width, points);
-    answer
+    let after = plan_wire(buf.len(), writer, style, width, points)?;
+    store_wire(buf, writer.cursor.at, style, width, points);
+    Ok(after)
 }
 
 // Appends a TEXT.
@@ -208,13 +184,9 @@ pub fn text(
     ensures buf_after { record { answer = result; buffer = buf.new } ≡ call_in buf.old writer (given_text flags at width label.now) }
     ensures typed { WellTyped (given_text flags at width label.now) }
 {
-    let answer = plan_text(buf.len(), writer, flags, at, width, label);
-    if answer.number != 0 {
-        return answer;
-    }
-    let cursor = writer.cursor;
-    store_text(buf, cursor.at, flags, at, width, label);
-    answer
+    let after = plan_text(buf.len(), writer, flags, at, width, label)?;
+    store_text(buf, writer.cursor.at, flags, at, width, label);
+    Ok(after)
 }
 
 // Appends an SREF. An angle, a magnif or a grid whose flag is off is ignored.
@@ -231,13 +203,18 @@ pub fn sref(
     ensures buf_after { record { answer = result; buffer = buf.new } ≡ call_in buf.old writer (given_sref flags at angle magnif grid name.now) }
     ensures typed { WellTyped (given_sref flags at angle magnif grid name.now) }
 {
-    let answer = plan_sref(buf.len(), writer, flags, at, &angle, &magnif, grid, name);
-    if answer.number != 0 {
-        return answer;
-    }
-    let cursor = writer.cursor;
-    store_sref(buf, cursor.at, flags, at, &angle, &magnif, grid, name);
-    answer
+    let after = plan_sref(buf.len(), writer, flags, at, &angle, &magnif, grid, name)?;
+    store_sref(
+        buf,
+        writer.cursor.at,
+        flags,
+        at,
+        &angle,
+        &magnif,
+        grid,
+        name,
+    );
+    Ok(after)
 }
 
 // Appends ENDLIB.
@@ -245,11 +222,7 @@ pub fn endlib(buf: &mut [u8], writer: Writer) -> Answer
     ensures buf_after { record { answer = result; buffer = buf.new } ≡ call_in buf.old writer given_endlib }
     ensures typed { WellTyped given_endlib }
 {
-    let answer = plan_endlib(buf.len(), writer);
-    if answer.number != 0 {
-        return answer;
-    }
-    let cursor = writer.cursor;
-    store_endlib(buf, cursor.at);
-    answer
+    let after = plan_endlib(buf.len(), writer)?;
+    store_endlib(buf, writer.cursor.at);
+    Ok(after)
 }

@@ -8,7 +8,7 @@ use lib.IntN.{ℤ}
 use Rattle.cgx_spec.specs.Fields.{any, ordered, closed, Test, Field, longs}
 use Rattle.cgx_spec.specs.Kinds.{angle, magnif, array, only_if, layout}
 use Rattle.cgx_format_kinds.specs.declared.Point.{Point}
-use Rattle.cgx_write_given.specs.declared.Grid.{Grid}
+use Rattle.cgx_format_kinds.specs.declared.Grid.{Grid}
 use Rattle.cgx_write_given.specs.Given.{Item, eight, list, long, point, if_set, given_library, given_struct, given_owned, given_layer, given_box, given_poly, given_wire, given_text, given_sref, given_endlib}
 use Rattle.cgx_write_given.specs.Typed.{Long, Longs, IsPoint, Typed, a_real, a_scale, a_date, a_short, a_list, a_text, a_name, no_name, not_there}
 use Rattle.cgx_write_given.specs.Demands.{CallsPromises}

@@ -1,17 +1,16 @@
 -- After any calls from a fresh start, what the taken ones stored is read back: each store lengthens the bytes before the writer's place by a good record. Assumes nothing.
+use Rattle.std.specs.Prelude.{None, Option, Some}
 use mathlib.Core.Path.{◌≡◌, refl, sym, ap, ap₂, ◌∙◌, subst}
 use mathlib.Core.Bool.{Bool, true, false, cond}
 use mathlib.Core.List.{List, [], ◌∷◌, ◌++◌, map, append-nil, append_assoc}
-use mathlib.Core.Option.{Option, none, some}
 use Prim.Native.Nat.{ℕ, ◌+◌, ◌≤◌}
 use native.Mathlib.Omega.{arith}
-use borrow.Author.Tests.{ne_eqb}
 use lib.Dec.{leb, leb→le}
 use lib.ListN.{length, take}
 use Rattle.cgx_spec.specs.declared.Kind.{Kind}
 use Rattle.cgx_spec.specs.declared.Context.{Context}
 use Rattle.cgx_spec.specs.declared.Place.{Place}
-use Rattle.cgx_spec.specs.declared.Verdict.{Verdict}
+use Rattle.cgx_spec.specs.Verdicts.{Verdict}
 use Rattle.cgx_spec.specs.Fields.{join}
 use Rattle.cgx_spec.specs.Order.{start}
 use Rattle.cgx_spec.specs.Records.{Rec, size, bytes_of, Meaning, meaning_of, normal_of, broken, context_after, view_meaning}
@@ -28,7 +27,7 @@ use Rattle.buffers.proofs.Puts.{put-length}
 use Rattle.cgx_write_given.specs.declared.Writer.{Writer}
 use Rattle.cgx_write_given.specs.Given.{Given, meant, written}
 use Rattle.cgx_write_given.specs.Typed.{WellTyped, AllWell}
-use Rattle.cgx_write_given.specs.Writing.{offset_of, context_of, place_of, first_writer, writer_after, rules_of, checks, History, if_taken, calls, from_start, file_of}
+use Rattle.cgx_write_given.specs.Writing.{offset_of, context_of, place_of, first_writer, writer_after, rules_of, checks, writer_or, History, if_taken, calls, from_start, file_of}
 use Rattle.cgx_write_given.specs.Demands.{ReadBack}
 use Rattle.cgx_write_given.proofs.Records.{further, checks-are, kind-written, Good, good-call}
 use Rattle.cgx_write_given.proofs.Calls.{by-outcome}
@@ -38,14 +37,14 @@ use Rattle.cgx_write_given.proofs.Stores.{take_put, take-record, start_is}
 -- ---- one call
 
 -- no refusal: the rules are kept and there is room
-no-refusal : (n : ℕ) (w : Writer) (g : Given) → broken (checks n w g) ≡ none → (broken (rules_of (context_of w) g) ≡ none) × (offset_of w + size (written g) ≤ n)
+no-refusal : (n : ℕ) (w : Writer) (g : Given) → broken (checks n w g) ≡ None → (broken (rules_of (context_of w) g) ≡ None) × (offset_of w + size (written g) ≤ n)
 no-refusal n w g e = one (forged n (place_of w)) (broken (rules_of (context_of w) g)) (leb (offset_of w + size (written g)) n) refl (sym (checks-are n w g) ∙ e)
   where
-    one : (f : Bool) (o : Option ℕ) (r : Bool) → leb (offset_of w + size (written g)) n ≡ r → cond f (some 16) (further o 14 r) ≡ none → (o ≡ none) × (offset_of w + size (written g) ≤ n)
+    one : (f : Bool) (o : Option ℕ) (r : Bool) → leb (offset_of w + size (written g)) n ≡ r → cond f (Some 16) (further o 14 r) ≡ None → (o ≡ None) × (offset_of w + size (written g) ≤ n)
     one true o r q e = absurd (let z : ◌≡◌ {A = ℕ} 0 1 = cc in omega arith)
-    one false (some m) r q e = absurd (let z : ◌≡◌ {A = ℕ} 0 1 = cc in omega arith)
-    one false none false q e = absurd (let z : ◌≡◌ {A = ℕ} 0 1 = cc in omega arith)
-    one false none true q e = (refl, leb→le (offset_of w + size (written g)) n (true→T q))
+    one false (Some m) r q e = absurd (let z : ◌≡◌ {A = ℕ} 0 1 = cc in omega arith)
+    one false None false q e = absurd (let z : ◌≡◌ {A = ℕ} 0 1 = cc in omega arith)
+    one false None true q e = (refl, leb→le (offset_of w + size (written g)) n (true→T q))
 
 -- ---- any calls
 
@@ -60,7 +59,7 @@ abbrev Keeping : List Given → List ℕ → Writer → Type 0
 Keeping gs buf w = 4 ≤ offset_of w → offset_of w ≤ length buf → let h = calls buf w gs in (context_of h.writer).ended ≡ true → Kept w (take (offset_of w) buf) h
 
 -- a record that is taken, and then more calls
-one-taken : (g : Given) (gs : List Given) → WellTyped g → (buf : List ℕ) (w : Writer) → broken (checks (length buf) w g) ≡ none → let b = put buf (offset_of w) (bytes_of (written g)) in let v = writer_after w g in
+one-taken : (g : Given) (gs : List Given) → WellTyped g → (buf : List ℕ) (w : Writer) → broken (checks (length buf) w g) ≡ None → let b = put buf (offset_of w) (bytes_of (written g)) in let v = writer_after w g in
     Keeping gs b v → 4 ≤ offset_of w → let h = calls b v gs in (context_of h.writer).ended ≡ true → Kept w (take (offset_of w) buf) (record { taken = g ∷ h.taken; writer = h.writer; buffer = h.buffer })
 unfolding place_in place_after context_after
 one-taken g gs t buf w f rest four e =
@@ -86,10 +85,10 @@ unfolding calls
 calls-kept [] h buf w four l = λ e. record { good = e; bytes = sym (append-nil (take (offset_of w) buf)); means = refl; normal = refl }
 calls-kept (g ∷ gs) h buf w four l =
     by-outcome
-    (λ o. let r = calls o.buffer o.answer.writer gs in (context_of r.writer).ended ≡ true → Kept w (take (offset_of w) buf) (record { taken = if_taken o.answer g r.taken; writer = r.writer; buffer = r.buffer }))
+    (λ o. let r = calls o.buffer (writer_or w o.answer) gs in (context_of r.writer).ended ≡ true → Kept w (take (offset_of w) buf) (record { taken = if_taken o.answer g r.taken; writer = r.writer; buffer = r.buffer }))
     buf w g
     (λ f. one-taken g gs h.0 buf w f (calls-kept gs h.1 (put buf (offset_of w) (bytes_of (written g))) (writer_after w g)) four)
-    (λ n f z. rw (ne_eqb n 0 z) (calls-kept gs h.1 buf w four l))
+    (λ n f. calls-kept gs h.1 buf w four l)
 
 -- ---- the file of the records taken
 

@@ -71,7 +71,7 @@ le_z-refl : (x : ℤ) → T (le_z x x)
 le_z-refl (pos a) = le→leb a a (omega arith)
 le_z-refl (negsuc a) = le→leb a a (omega arith)
 
-alike→eq : (xs ys : List ℤ) → T (alike xs ys) → xs ≡ ys
+pub alike→eq : (xs ys : List ℤ) → T (alike xs ys) → xs ≡ ys
 unfolding alike
 alike→eq [] [] t = refl
 alike→eq [] (y ∷ ys) t = absurd t
@@ -80,7 +80,7 @@ alike→eq (x ∷ xs) (y ∷ ys) t =
     let a = and_left (le_z x y && le_z y x) (alike xs ys) t in
     ap₂ ◌∷◌ (both_ways x y (and_left (le_z x y) (le_z y x) a) (and_right (le_z x y) (le_z y x) a)) (alike→eq xs ys (and_right (le_z x y && le_z y x) (alike xs ys) t))
 
-alike_refl : (xs : List ℤ) → T (alike xs xs)
+pub alike_refl : (xs : List ℤ) → T (alike xs xs)
 unfolding alike
 alike_refl [] = tt
 alike_refl (x ∷ xs) = and_both (le_z x x && le_z x x) (alike xs xs) (and_both (le_z x x) (le_z x x) (le_z-refl x) (le_z-refl x)) (alike_refl xs)

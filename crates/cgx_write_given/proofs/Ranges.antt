@@ -1,18 +1,23 @@
 -- What the prover knows of a signed number, a struct or an enum that is passed by value, as `Typed` says it. Assumes nothing.
+
 use mathlib.Core.Path.{subst, sym}
 use mathlib.Core.List.{List, [], ◌∷◌}
-use Prim.Native.Nat.{ℕ, ◌+◌, ◌<◌, ◌≤◌, ◌^◌}
-use native.Mathlib.Omega.{arith}
+use Prim.Native.Nat.{ℕ, ◌+◌, ◌<◌, ◌^◌}
 use native.Mathlib.Numerals.{add-one}
 use lib.IntN.{ℤ, pos, negsuc}
-use lib.ListN.{length, drop, get_or, drop_of_length-le}
+use lib.ListN.{length, drop, get_or}
 use lib.Seq.{drop-cons}
 use lib.Signed.{mag}
+use native.Mathlib.Omega.{arith}
+use Rattle.std.specs.Prelude.{None, Option, Some}
+use mir.Syntax.{w8}
+use mir.Val.{Val}
+use denote.Plain.{UInt}
 use denote.Laws.{Is}
+use denote.Enum.Declared as Enum
+use Rattle.std.specs.contracts.option.Option as OfOption
 use denote.Struct.Declared as Struct
 use denote.Struct.Laws as StructLaws
-use denote.Enum.Declared as Enum
-use denote.Enum.Laws as EnumLaws
 use Rattle.cgx_spec.specs.Numbers.{InRange}
 use Rattle.cgx_format_kinds.specs.declared.Date.{Date}
 use Rattle.cgx_format_kinds.specs.declared.LayerNo.{LayerNo}
@@ -26,13 +31,9 @@ use Rattle.cgx_format_kinds.specs.contracts.DataType as OfDataType
 use Rattle.cgx_format_kinds.proofs.DataType.TheLaws as DataTypeLaws
 use Rattle.cgx_format_kinds.specs.contracts.Point as OfPoint
 use Rattle.cgx_format_kinds.proofs.Point.TheLaws as PointLaws
-use Rattle.cgx_write_given.specs.declared.Grid.{Grid}
-use Rattle.cgx_write_given.specs.declared.EndStyle.{EndStyle}
-use Rattle.cgx_write_given.specs.declared.EndStyle.TheVariants.{Unstated, Stated}
-use Rattle.cgx_write_given.specs.contracts.Grid as OfGrid
-use Rattle.cgx_write_given.proofs.Grid.TheLaws as GridLaws
-use Rattle.cgx_write_given.specs.contracts.EndStyle as OfEndStyle
-use Rattle.cgx_write_given.proofs.EndStyle.TheLaws as EndStyleLaws
+use Rattle.cgx_format_kinds.specs.declared.Grid.{Grid}
+use Rattle.cgx_format_kinds.specs.contracts.Grid as OfGrid
+use Rattle.cgx_format_kinds.proofs.Grid.TheLaws as GridLaws
 use Rattle.cgx_write_given.specs.Given.{style_of}
 use Rattle.cgx_write_given.specs.Typed.{Short, Long, Longs, IsDate, IsPoint, IsGrid}
 
@@ -53,9 +54,6 @@ long-in z h = in-range (2 ^ 31) z h
 pub longs-on : (zs : List ℤ) (i : ℕ) → i < length zs → mag (get_or zs i (pos 0)) < 2 ^ 31 → (Longs (drop i zs) → Longs zs) → Longs (drop (i + 1) zs) → Longs zs
 longs-on zs i h l rest hs =
     rest (subst Longs (sym (drop-cons zs i (pos 0) h)) (long-in (get_or zs i (pos 0)) l, subst (λ (k : ℕ). Longs (drop k zs)) (add-one i) hs))
-
-pub longs-all : (zs : List ℤ) (i : ℕ) → length zs ≤ i → (Longs (drop i zs) → Longs zs) → Longs zs
-longs-all zs i h rest = rest (subst Longs (sym (drop_of_length-le zs h)) tt)
 
 -- ---- structs
 
@@ -94,6 +92,6 @@ grid-in g t =
 
 -- ---- an end style
 
-pub style-in : (s : EndStyle) → Is (Enum.row OfEndStyle.the_type) s (EnumLaws.val OfEndStyle.the_type EndStyleLaws.the_laws s ∷ []) → style_of s < 256
-style-in Unstated g = omega arith
-style-in (Stated n) g = g.1.1.1.1.0.1
+pub style-in : (s : Option ℕ) {vs : List Val} → Is (Enum.row (OfOption.the_type (UInt w8))) s vs → style_of s < 256
+style-in None g = omega arith
+style-in (Some n) g = g.1.1.1.1.0.1

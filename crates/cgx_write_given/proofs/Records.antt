@@ -1,8 +1,8 @@
 -- The record that a call writes: a reader's rules say of it what the writer's say of the call, it means what was given, and it is in normal form. Assumes nothing.
+use Rattle.std.specs.Prelude.{None, Option, Some}
 use mathlib.Core.Path.{◌≡◌, refl, sym, ap, ◌∙◌}
 use mathlib.Core.Bool.{Bool, true, false, not, ◌&&◌, cond}
 use mathlib.Core.List.{List, [], ◌∷◌, ◌++◌}
-use mathlib.Core.Option.{Option, none, some}
 use Prim.Native.Nat.{ℕ, suc, ◌+◌, ◌≤◌, ◌<◌}
 use native.Mathlib.Omega.{arith}
 use lib.Dec.{T, leb, leb→le, le→leb}
@@ -30,28 +30,28 @@ use Rattle.cgx_write_given.proofs.Layouts.{shape, paired, pieces_are, fit-law, k
 
 -- what one more rule at the end makes of the number before it
 abbrev pub further : Option ℕ → ℕ → Bool → Option ℕ
-further none n b = cond b none (some n)
-further (some m) n b = some m
+further None n b = cond b None (Some n)
+further (Some m) n b = Some m
 
 pub broken-further : (rs : List Rule) (n : ℕ) (b : Bool) → broken (rs ++ (rule n b ∷ [])) ≡ further (broken rs) n b
 unfolding broken
 broken-further [] n b = refl
 broken-further (r ∷ rs) n b = one r.kept (broken-further rs n b)
   where
-    one : (k : Bool) → broken (rs ++ (rule n b ∷ [])) ≡ further (broken rs) n b → cond k (broken (rs ++ (rule n b ∷ []))) (some r.number) ≡ further (cond k (broken rs) (some r.number)) n b
+    one : (k : Bool) → broken (rs ++ (rule n b ∷ [])) ≡ further (broken rs) n b → cond k (broken (rs ++ (rule n b ∷ []))) (Some r.number) ≡ further (cond k (broken rs) (Some r.number)) n b
     one true e = e
     one false e = refl
 
 -- the checks of a call: 16 first, 14 last
-pub checks-are : (n : ℕ) (w : Writer) (g : Given) → broken (checks n w g) ≡ cond (forged n (place_of w)) (some 16) (further (broken (rules_of (context_of w) g)) 14 (leb (offset_of w + size (written g)) n))
+pub checks-are : (n : ℕ) (w : Writer) (g : Given) → broken (checks n w g) ≡ cond (forged n (place_of w)) (Some 16) (further (broken (rules_of (context_of w) g)) 14 (leb (offset_of w + size (written g)) n))
 unfolding checks
-checks-are n w g = one (forged n (place_of w)) ∙ ap (cond (forged n (place_of w)) (some 16)) (broken-further (rules_of (context_of w) g) 14 (leb (offset_of w + size (written g)) n))
+checks-are n w g = one (forged n (place_of w)) ∙ ap (cond (forged n (place_of w)) (Some 16)) (broken-further (rules_of (context_of w) g) 14 (leb (offset_of w + size (written g)) n))
   where
-    one : (b : Bool) → broken (rule 16 (not b) ∷ (rules_of (context_of w) g ++ (rule 14 (leb (offset_of w + size (written g)) n) ∷ []))) ≡ cond b (some 16) (broken (rules_of (context_of w) g ++ (rule 14 (leb (offset_of w + size (written g)) n) ∷ [])))
+    one : (b : Bool) → broken (rule 16 (not b) ∷ (rules_of (context_of w) g ++ (rule 14 (leb (offset_of w + size (written g)) n) ∷ []))) ≡ cond b (Some 16) (broken (rules_of (context_of w) g ++ (rule 14 (leb (offset_of w + size (written g)) n) ∷ [])))
     one true = unfold broken in refl
     one false = unfold broken in refl
 
-unkept : (n : ℕ) (b : Bool) (rs : List Rule) → broken (rule n b ∷ rs) ≡ none → (b ≡ true) × (broken rs ≡ none)
+unkept : (n : ℕ) (b : Bool) (rs : List Rule) → broken (rule n b ∷ rs) ≡ None → (b ≡ true) × (broken rs ≡ None)
 unfolding broken
 unkept n true rs e = (refl, e)
 unkept n false rs e = absurd (let z : ◌≡◌ {A = ℕ} 0 1 = cc in omega arith)
@@ -93,7 +93,7 @@ type-small Text = omega arith
 type-small Sref = omega arith
 type-small Endlib = omega arith
 
-pub kind-written : (g : Given) → kind_of (written g).type ≡ some g.kind
+pub kind-written : (g : Given) → kind_of (written g).type ≡ Some g.kind
 unfolding written
 kind-written g = kind-for g.kind
 
@@ -122,30 +122,30 @@ module _ (g : Given) (w : WellTyped g) where
 
     -- the rules of a reader, those of the writer in the same order
     reads-given : (here : Bool) → size (written g) ≤ max_size
-        → rules here (some g.kind) (written g)
+        → rules here (Some g.kind) (written g)
         ≡ rule 6 here ∷ rule 7 (good_flags g.kind g.flags) ∷ rule 8 (enough_given g) ∷ rule 9 (keeps_given 9 g) ∷ rule 10 (keeps_given 10 g) ∷ rule 11 (keeps_given 11 g) ∷ rule 12 (keeps_given 12 g) ∷ []
     unfolding rules
     reads-given here l =
         let f : good_flags g.kind (written g).flags ≡ good_flags g.kind g.flags = unfold written in (good-flags (flags_for g.kind) g.flags) in
         rw (f, fits-given l, keeps_given_lem 8, keeps_given_lem 9, keeps_given_lem 10, keeps_given_lem 11)
 
-    same_number : (c : Context) → size (written g) ≤ max_size → broken (rules_of c g) ≡ cond c.ended (some 6) (fault_of c (written g))
+    same_number : (c : Context) → size (written g) ≤ max_size → broken (rules_of c g) ≡ cond c.ended (Some 6) (fault_of c (written g))
     unfolding rules_of
     same_number c l =
-        let a = allowed c (some g.kind) in
+        let a = allowed c (Some g.kind) in
         let six : List Rule = rule 7 (good_flags g.kind g.flags) ∷ rule 8 (enough_given g) ∷ rule 9 (keeps_given 9 g) ∷ rule 10 (keeps_given 10 g) ∷ rule 11 (keeps_given 11 g) ∷ rule 12 (keeps_given 12 g) ∷ [] in
         broken-further (rule 6 (allowed_here c g) ∷ six) 15 (leb (size (written g)) max_size)
         ∙ ap (further (broken (rule 6 (allowed_here c g) ∷ six)) 15) (T→true (le→leb (size (written g)) max_size l))
         ∙ whole (broken (rule 6 (allowed_here c g) ∷ six))
         ∙ ending c.ended a six
-        ∙ ap (λ (rs : List Rule). cond c.ended (some 6) (broken rs)) (sym (reads-given a l))
-        ∙ ap (λ (o : Option Kind). cond c.ended (some 6) (broken (rules (allowed c o) o (written g)))) (sym (kind-written g))
+        ∙ ap (λ (rs : List Rule). cond c.ended (Some 6) (broken rs)) (sym (reads-given a l))
+        ∙ ap (λ (o : Option Kind). cond c.ended (Some 6) (broken (rules (allowed c o) o (written g)))) (sym (kind-written g))
       where
         whole : (o : Option ℕ) → further o 15 true ≡ o
-        whole none = refl
-        whole (some n) = refl
+        whole None = refl
+        whole (Some n) = refl
 
-        ending : (e a : Bool) (rs : List Rule) → broken (rule 6 (not e && a) ∷ rs) ≡ cond e (some 6) (broken (rule 6 a ∷ rs))
+        ending : (e a : Bool) (rs : List Rule) → broken (rule 6 (not e && a) ∷ rs) ≡ cond e (Some 6) (broken (rule 6 a ∷ rs))
         ending true a rs = unfold broken in refl
         ending false a rs = refl
 
@@ -156,7 +156,7 @@ module _ (g : Given) (w : WellTyped g) where
       let b = ap normal_bytes cut_up ∙ normals-law (fields_of g) g.items w.items in
       λ i. record { type = type_for g.kind; flags = f i; body = b i }
 
-pub same-rules : (c : Context) (g : Given) → WellTyped g → keeps_given 11 g ≡ true → size (written g) ≤ max_size → broken (rules_of c g) ≡ cond c.ended (some 6) (fault_of c (written g))
+pub same-rules : (c : Context) (g : Given) → WellTyped g → keeps_given 11 g ≡ true → size (written g) ≤ max_size → broken (rules_of c g) ≡ cond c.ended (Some 6) (fault_of c (written g))
 same-rules c g w t l = same_number g w (true→T t) c l
 
 -- ---- a call that breaks no rule
@@ -175,11 +175,11 @@ sized-given g w l =
 pub record Good (c : Context) (g : Given) : Type 0 where
   pub unended : c.ended ≡ false
   pub sized : Sized (written g)
-  pub kept : fault_of c (written g) ≡ none
+  pub kept : fault_of c (written g) ≡ None
   pub means : meaning_of g.kind (written g) ≡ meant g
   pub normal : normal_of g.kind (written g) ≡ written g
 
-pub good-call : (c : Context) (g : Given) → WellTyped g → broken (rules_of c g) ≡ none → Good c g
+pub good-call : (c : Context) (g : Given) → WellTyped g → broken (rules_of c g) ≡ None → Good c g
 unfolding rules_of
 good-call c g w e =
     let e₆ = unkept 6 (allowed_here c g) _ e in
@@ -192,11 +192,11 @@ good-call c g w e =
     let e₁₅ = unkept 15 (leb (size (written g)) max_size) _ e₁₂.1 in
     let l : size (written g) ≤ max_size = leb→le (size (written g)) max_size (true→T e₁₅.0) in
     let t : T (keeps_given 11 g) = true→T e₁₁.0 in
-    let o : c.ended ≡ false = opens c.ended (allowed c (some g.kind)) (true→T e₆.0) in
+    let o : c.ended ≡ false = opens c.ended (allowed c (Some g.kind)) (true→T e₆.0) in
     record {
       unended = o;
       sized = sized-given g w l;
-      kept = ap (λ (b : Bool). cond b (some 6) (fault_of c (written g))) (sym o) ∙ sym (same_number g w t c l) ∙ e;
+      kept = ap (λ (b : Bool). cond b (Some 6) (fault_of c (written g))) (sym o) ∙ sym (same_number g w t c l) ∙ e;
       means = means-given g w t;
       normal = normal-given g w;
     }

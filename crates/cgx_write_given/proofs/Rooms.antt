@@ -1,8 +1,8 @@
 -- Room: good records with room enough are all taken, and the first one without room is answered 14. Assumes nothing.
+use Rattle.std.specs.Prelude.{None, Some, Err}
 use mathlib.Core.Path.{◌≡◌, refl, sym, ap, ◌∙◌, subst}
 use mathlib.Core.Bool.{Bool, true, false, cond}
 use mathlib.Core.List.{List, [], ◌∷◌, ◌++◌, map}
-use mathlib.Core.Option.{none, some}
 use Prim.Native.Nat.{ℕ, ◌+◌, ◌≤◌, ◌<◌}
 use native.Mathlib.Omega.{arith}
 use lib.Dec.{leb, leb→le, le→leb}
@@ -19,7 +19,7 @@ use Rattle.buffers.proofs.Puts.{put-length}
 use Rattle.cgx_write_given.specs.declared.Writer.{Writer}
 use Rattle.cgx_write_given.specs.Given.{Given, written}
 use Rattle.cgx_write_given.specs.Typed.{WellTyped, AllWell}
-use Rattle.cgx_write_given.specs.Writing.{offset_of, context_of, place_of, first_writer, writer_after, rules_of, checks, answered, planned, Outcome, call_in, if_taken, calls, from_start, file_of}
+use Rattle.cgx_write_given.specs.Writing.{offset_of, context_of, place_of, first_writer, writer_after, rules_of, checks, answered, planned, Outcome, writer_or, call_in, if_taken, calls, from_start, file_of}
 use Rattle.cgx_write_given.specs.Demands.{Whole, ReadBack, Stops}
 use Rattle.cgx_write_given.proofs.Records.{checks-are, Good, good-call}
 use Rattle.cgx_spec.proofs.Steps.{Unforged, not-forged, unforged-start}
@@ -31,14 +31,14 @@ use Rattle.cgx_write_given.proofs.Histories.{any-calls}
 -- ---- one call
 
 -- a call from a writer that is not forged that keeps its rules: room decides
-room-decides : (buf : List ℕ) (w : Writer) (g : Given) → Unforged (length buf) (place_of w) → broken (rules_of (context_of w) g) ≡ none → (r : Bool) → leb (offset_of w + size (written g)) (length buf) ≡ r → broken (checks (length buf) w g) ≡ cond r none (some 14)
+room-decides : (buf : List ℕ) (w : Writer) (g : Given) → Unforged (length buf) (place_of w) → broken (rules_of (context_of w) g) ≡ None → (r : Bool) → leb (offset_of w + size (written g)) (length buf) ≡ r → broken (checks (length buf) w g) ≡ cond r None (Some 14)
 room-decides buf w g s e r q = checks-are (length buf) w g ∙ rw (not-forged (length buf) (place_of w) s, e, q)
 
-takes : (buf : List ℕ) (w : Writer) (g : Given) → Unforged (length buf) (place_of w) → broken (rules_of (context_of w) g) ≡ none → offset_of w + size (written g) ≤ length buf → call_in buf w g ≡ record { answer = taken w g; buffer = put buf (offset_of w) (bytes_of (written g)) }
+takes : (buf : List ℕ) (w : Writer) (g : Given) → Unforged (length buf) (place_of w) → broken (rules_of (context_of w) g) ≡ None → offset_of w + size (written g) ≤ length buf → call_in buf w g ≡ record { answer = taken w g; buffer = put buf (offset_of w) (bytes_of (written g)) }
 unfolding call_in planned answered
 takes buf w g s e l = rw (room-decides buf w g s e true (T→true (le→leb (offset_of w + size (written g)) (length buf) l)))
 
-lacks-room : (buf : List ℕ) (w : Writer) (g : Given) → Unforged (length buf) (place_of w) → broken (rules_of (context_of w) g) ≡ none → leb (offset_of w + size (written g)) (length buf) ≡ false → call_in buf w g ≡ record { answer = refused w 14; buffer = buf }
+lacks-room : (buf : List ℕ) (w : Writer) (g : Given) → Unforged (length buf) (place_of w) → broken (rules_of (context_of w) g) ≡ None → leb (offset_of w + size (written g)) (length buf) ≡ false → call_in buf w g ≡ record { answer = refused w 14; buffer = buf }
 unfolding call_in planned answered
 lacks-room buf w g s e q = rw (room-decides buf w g s e false q)
 
@@ -53,7 +53,7 @@ total-cons g gs = length-append (bytes_of (written g)) (join bytes_of (map writt
 after-taken : (buf : List ℕ) (w : Writer) (g : Given) (gs : List Given) → call_in buf w g ≡ record { answer = taken w g; buffer = put buf (offset_of w) (bytes_of (written g)) }
     → calls buf w (g ∷ gs) ≡ (let h = calls (put buf (offset_of w) (bytes_of (written g))) (writer_after w g) gs in record { taken = g ∷ h.taken; writer = h.writer; buffer = h.buffer })
 unfolding calls
-after-taken buf w g gs e = ap (λ (o : Outcome). let h = calls o.buffer o.answer.writer gs in record { taken = if_taken o.answer g h.taken; writer = h.writer; buffer = h.buffer }) e
+after-taken buf w g gs e = ap (λ (o : Outcome). let h = calls o.buffer (writer_or w o.answer) gs in record { taken = if_taken o.answer g h.taken; writer = h.writer; buffer = h.buffer }) e
 
 -- what is left to store after it
 after-room : (buf : List ℕ) (w : Writer) (g : Given) (n : ℕ) → offset_of w + size (written g) + n ≤ length buf → offset_of (writer_after w g) + n ≤ length (put buf (offset_of w) (bytes_of (written g)))
@@ -65,7 +65,7 @@ unfolding writer_after cursor_of place_after
 after-lacks buf w g n l = omega (arith, put-length buf (offset_of w) (bytes_of (written g)))
 
 -- the writer after a taken call is not forged, as the one before it is not
-module _ (buf : List ℕ) (w : Writer) (g : Given) (s : Unforged (length buf) (place_of w)) (t : WellTyped g) (e : broken (rules_of (context_of w) g) ≡ none) (l : offset_of w + size (written g) ≤ length buf) where
+module _ (buf : List ℕ) (w : Writer) (g : Given) (s : Unforged (length buf) (place_of w)) (t : WellTyped g) (e : broken (rules_of (context_of w) g) ≡ None) (l : offset_of w + size (written g) ≤ length buf) where
   sound-on : Unforged (length (put buf (offset_of w) (bytes_of (written g)))) (place_of (writer_after w g))
   sound-on =
       let c : Good (context_of w) g = good-call (context_of w) g t e in
@@ -95,9 +95,9 @@ record StopsFrom (buf : List ℕ) (w : Writer) (gs : List Given) : Type 0 where
   taken : (calls buf w before).taken ≡ before
   fits : offset_of w + total before ≤ length buf
   lacks : length buf < offset_of w + total (before ++ (first ∷ []))
-  fourteen : let h = calls buf w before in call_in h.buffer h.writer first ≡ record { answer = record { number = 14; at = 0; writer = h.writer }; buffer = h.buffer }
+  fourteen : let h = calls buf w before in call_in h.buffer h.writer first ≡ record { answer = Err (record { number = 14; at = None }); buffer = h.buffer }
 
-stops-here : (buf : List ℕ) (w : Writer) (g : Given) (gs : List Given) → Unforged (length buf) (place_of w) → broken (rules_of (context_of w) g) ≡ none → leb (offset_of w + size (written g)) (length buf) ≡ false → StopsFrom buf w (g ∷ gs)
+stops-here : (buf : List ℕ) (w : Writer) (g : Given) (gs : List Given) → Unforged (length buf) (place_of w) → broken (rules_of (context_of w) g) ≡ None → leb (offset_of w + size (written g)) (length buf) ≡ false → StopsFrom buf w (g ∷ gs)
 unfolding calls
 stops-here buf w g gs s e q =
     let n = total-cons g [] in

@@ -1,8 +1,9 @@
 -- Req 02: of what a call checks, the second of a date moves rule 9 alone.
+use Rattle.std.specs.Prelude.{None, Option, Some}
+use Rattle.std.proofs.lemmas.Bool.{true≢false}
 use mathlib.Core.Path.{◌≡◌, refl, sym, ap, ap₂, ◌∙◌}
 use mathlib.Core.Bool.{Bool, true, false, not, ◌&&◌, cond}
 use mathlib.Core.List.{List, [], ◌∷◌, ◌++◌}
-use mathlib.Core.Option.{Option, none, some}
 use Prim.Native.Nat.{ℕ, ◌+◌}
 use native.Mathlib.Omega.{arith}
 use lib.Dec.{T, leb, le→leb}
@@ -20,7 +21,7 @@ use Rattle.cgx_spec.proofs.Normal.{broken-none}
 use Rattle.cgx_format_kinds.specs.declared.Date.{Date}
 use Rattle.cgx_write_given.specs.declared.Writer.{Writer}
 use Rattle.cgx_write_given.specs.Given.{Given, date_bytes, stored, good_item, enough, enough_given, keeps_given, written, given_library, given_struct}
-use Rattle.cgx_write_given.specs.Writing.{offset_of, context_of, place_of, max_size, allowed_here, rules_of, checks, answered, planned, call_in}
+use Rattle.cgx_write_given.specs.Writing.{offset_of, context_of, place_of, max_size, allowed_here, rules_of, checks, answered, planned, is_taken, number_in, call_in}
 use Rattle.cgx_write_given.specs.Demands.{at_second, AnySecond, GivenSeconds}
 use Rattle.cgx_write_given.proofs.Calls.{by_answer}
 
@@ -41,14 +42,14 @@ record Alike (g h : Given) (s : ℕ) : Type 0 where
   twelve : keeps_given 12 h ≡ keeps_given 12 g
   sizes : size (written h) ≡ size (written g)
 
-taken_is : (n : ℕ) (w : Writer) (g : Given) → (planned n w g).number ≡ 0 → broken (checks n w g) ≡ none
-taken_is n w g = by_answer (λ a. a.number ≡ 0 → broken (checks n w g) ≡ none) n w g (λ e z. e) (λ m e h z. absurd (h z))
+taken_is : (n : ℕ) (w : Writer) (g : Given) → is_taken (planned n w g) ≡ true → broken (checks n w g) ≡ None
+taken_is n w g = by_answer (λ a. is_taken a ≡ true → broken (checks n w g) ≡ None) n w g (λ e z. e) (λ m e z. absurd (true≢false (sym z)))
 
-only-nine : {a b c d e f g h i x : Bool} → a ≡ true → b ≡ true → c ≡ true → d ≡ true → e ≡ x → f ≡ true → g ≡ true → h ≡ true → i ≡ true → {j : Bool} → j ≡ true → broken (rule 16 a ∷ rule 6 b ∷ rule 7 c ∷ rule 8 d ∷ rule 9 e ∷ rule 10 f ∷ rule 11 g ∷ rule 12 h ∷ rule 15 i ∷ rule 14 j ∷ []) ≡ cond x none (some 9)
+only-nine : {a b c d e f g h i x : Bool} → a ≡ true → b ≡ true → c ≡ true → d ≡ true → e ≡ x → f ≡ true → g ≡ true → h ≡ true → i ≡ true → {j : Bool} → j ≡ true → broken (rule 16 a ∷ rule 6 b ∷ rule 7 c ∷ rule 8 d ∷ rule 9 e ∷ rule 10 f ∷ rule 11 g ∷ rule 12 h ∷ rule 15 i ∷ rule 14 j ∷ []) ≡ cond x None (Some 9)
 unfolding broken
 only-nine a b c d e f g h i j u = broken (rule 16 (a u) ∷ rule 6 (b u) ∷ rule 7 (c u) ∷ rule 8 (d u) ∷ rule 9 (e u) ∷ rule 10 (f u) ∷ rule 11 (g u) ∷ rule 12 (h u) ∷ rule 15 (i u) ∷ rule 14 (j u) ∷ [])
 
-alike : (g h : Given) (s : ℕ) → Alike g h s → (n : ℕ) (w : Writer) → broken (checks n w g) ≡ none → broken (checks n w h) ≡ cond (leb s 60) none (some 9)
+alike : (g h : Given) (s : ℕ) → Alike g h s → (n : ℕ) (w : Writer) → broken (checks n w g) ≡ None → broken (checks n w h) ≡ cond (leb s 60) None (Some 9)
 unfolding checks rules_of
 alike g h s a n w e =
     let e₁₆ = broken-none 16 (not (forged n (place_of w))) _ e in
@@ -77,9 +78,9 @@ any-second : (call : Date → Given) → ((d : Date) (s : ℕ) → Alike (call d
 unfolding call_in planned answered
 any-second call a buf w d s z =
     let g = call (at_second s d) in
-    ap (λ (o : Option ℕ). (answered w g o).number) (alike (call d) g s (a d s) (length buf) w (taken_is (length buf) w (call d) z)) ∙ told (leb s 60)
+    ap (λ (o : Option ℕ). number_in (answered w g o)) (alike (call d) g s (a d s) (length buf) w (taken_is (length buf) w (call d) z)) ∙ told (leb s 60)
   where
-    told : (b : Bool) → (answered w (call (at_second s d)) (cond b none (some 9))).number ≡ cond b 0 9
+    told : (b : Bool) → number_in (answered w (call (at_second s d)) (cond b None (Some 9))) ≡ cond b None (Some 9)
     told true = refl
     told false = refl
 

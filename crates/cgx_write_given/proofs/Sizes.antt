@@ -1,7 +1,7 @@
 -- The size of the record that each call writes, as the code has it. Assumes nothing.
+use Rattle.std.specs.Prelude.{None, Option, Some}
 use mathlib.Core.Path.{◌≡◌, refl}
 use mathlib.Core.List.{List, []}
-use mathlib.Core.Option.{none, some}
 use Prim.Native.Nat.{ℕ, ◌+◌, ◌*◌, ◌/◌}
 use native.Mathlib.Omega.{arith}
 use lib.IntN.{ℤ}
@@ -13,7 +13,6 @@ use Rattle.buffers.specs.Put.{longs_bytes}
 use Rattle.buffers.proofs.Puts.{length-longs}
 use Rattle.buffers.proofs.Padding.{length-padded}
 use Rattle.cgx_format_kinds.specs.declared.Point.{Point}
-use Rattle.cgx_write_given.specs.declared.EndStyle.{EndStyle}
 use Rattle.cgx_format_kinds.specs.declared.LayerNo.{LayerNo}
 use Rattle.cgx_format_kinds.specs.declared.DataType.{DataType}
 use Rattle.cgx_write_given.specs.Given.{stored, written, given_layer, given_box, given_poly, given_wire, given_text, given_endlib}
@@ -21,7 +20,7 @@ use Rattle.cgx_write_given.specs.Given.{stored, written, given_layer, given_box,
 -- ---- LAYER without a name
 
 module _ (n : LayerNo) (d : DataType) where
-  pub layer-size : 8 ≡ size (written (given_layer n d none))
+  pub layer-size : 8 ≡ size (written (given_layer n d None))
   unfolding written given_layer stored short_bytes
   layer-size = refl
 
@@ -42,13 +41,13 @@ module _ (zs : List ℤ) where
 -- ---- LAYER with a name
 
 module _ (n : LayerNo) (d : DataType) (t : List ℕ) where
-  pub named-size : 10 + length t / 2 * 2 ≡ size (written (given_layer n d (some t)))
+  pub named-size : 10 + length t / 2 * 2 ≡ size (written (given_layer n d (Some t)))
   unfolding written given_layer stored short_bytes
   named-size = let e = length-padded t in let f = length-append (padded t) [] in omega arith
 
 -- ---- WIRE
 
-module _ (s : EndStyle) (w : ℤ) (zs : List ℤ) where
+module _ (s : Option ℕ) (w : ℤ) (zs : List ℤ) where
   pub wire-size : 8 + 4 * length zs ≡ size (written (given_wire s w zs))
   unfolding written given_wire stored longs_bytes long_bytes
   wire-size = let e = length-longs zs in let f = length-append (longs_bytes zs) [] in omega arith

@@ -1,8 +1,8 @@
 -- The calls of 01's drawing, at its seconds and at leap seconds, and its 4,096 boxes: the definitions compute them.
+use Rattle.std.specs.Prelude.{Some}
 use mathlib.Core.Path.{◌≡◌, refl}
 use mathlib.Core.Bool.{true, false}
 use mathlib.Core.List.{List, [], ◌∷◌, ◌++◌}
-use mathlib.Core.Option.{some}
 use Prim.Native.Nat.{ℕ, ◌+◌, ◌<◌}
 use native.Mathlib.Omega.{arith}
 use lib.Dec.{leb, leb→le}
@@ -103,7 +103,7 @@ module _ (sides : List ℤ) where
       let m = length-append (longs_bytes sides) [] in
       ¬T→false (λ t. let h = leb→le (4 + length (longs_bytes sides ++ [])) max_size t in omega arith)
 
-boxes-4096 : (c : Context) (sides : List ℤ) → allowed_here c (given_box sides) ≡ true → in_order sides ≡ true → length sides ≡ 16384 → broken (rules_of c (given_box sides)) ≡ some 15
+boxes-4096 : (c : Context) (sides : List ℤ) → allowed_here c (given_box sides) ≡ true → in_order sides ≡ true → length sides ≡ 16384 → broken (rules_of c (given_box sides)) ≡ Some 15
 unfolding rules_of broken
 boxes-4096 c sides h o l =
     let big = too-big sides l in

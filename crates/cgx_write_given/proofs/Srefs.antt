@@ -14,7 +14,7 @@ use Rattle.buffers.specs.Put.{longs_bytes}
 use Rattle.buffers.proofs.Padding.{length-padded}
 use Rattle.cgx_format_kinds.specs.declared.Point.{Point}
 use Rattle.cgx_format_sref.specs.Layouts.{sref_layout}
-use Rattle.cgx_write_given.specs.declared.Grid.{Grid}
+use Rattle.cgx_format_kinds.specs.declared.Grid.{Grid}
 use Rattle.cgx_write_given.specs.Given.{long, point, if_set, stored, written, given_sref}
 use Rattle.cgx_write_given.specs.Srefs.{real_if, grid_if, sref_size}
 

@@ -1,6 +1,6 @@
 -- The place of a writer after a record is that of a walk that has read it, and is not forged. Assumes nothing.
+use Rattle.std.specs.Prelude.{Option, Some}
 use mathlib.Core.Path.{◌≡◌, sym, ap, ◌∙◌, subst}
-use mathlib.Core.Option.{Option, some}
 use Prim.Native.Nat.{ℕ, ◌+◌, ◌%◌, ◌≤◌, ◌<◌}
 use native.Mathlib.Omega.{arith}
 use Rattle.cgx_spec.specs.declared.Kind.{Kind}
@@ -18,7 +18,7 @@ use Rattle.cgx_write_given.specs.Writing.{offset_of, context_of, place_of, write
 use Rattle.cgx_write_given.proofs.Records.{kind-written}
 
 -- the writer after a record, as the code has it
-pub after_is : (w : Writer) (g : Given) → writer_after w g ≡ record { cursor = record { at = offset_of w + size (written g); state = state_of (next (context_of w) (offset_of w) (some g.kind)) } }
+pub after_is : (w : Writer) (g : Given) → writer_after w g ≡ record { cursor = record { at = offset_of w + size (written g); state = state_of (next (context_of w) (offset_of w) (Some g.kind)) } }
 unfolding writer_after cursor_of place_after context_after
 after_is w g = ap (λ (o : Option Kind). record { cursor = record { at = offset_of w + size (written g); state = state_of (next (context_of w) (offset_of w) o) } }) (kind-written g)
 

@@ -1,6 +1,5 @@
 -- What is proved of the writer's definitions: start here. `WriterPromises` holds it all, and proofs/Promises.antt proves it. Statements only.
-use Rattle.std.specs.Prelude.{◌≡◌, ◌⊎◌, true, cond, List, [], ◌∷◌, ◌++◌, map, ℕ, ◌+◌, ◌≤◌, ◌<◌, leb, ℤ, pos, negsuc, length, take, get_or}
-use Rattle.std.proofs.Math.Option.{none, some}
+use Rattle.std.specs.Prelude.{◌≡◌, ◌⊎◌, true, false, cond, List, [], ◌∷◌, ◌++◌, map, ℕ, ◌+◌, ◌≤◌, ◌<◌, leb, ℤ, pos, negsuc, length, take, get_or, None, Option, Some, Ok, Err, IfErr}
 use Rattle.cgx_spec.specs.declared.Context.{Context}
 use Rattle.cgx_spec.specs.Numbers.{Bytes}
 use Rattle.cgx_spec.specs.Fields.{in_order}
@@ -14,13 +13,11 @@ use Rattle.cgx_format_kinds.specs.declared.Date.{Date}
 use Rattle.cgx_format_kinds.specs.declared.LayerNo.{LayerNo}
 use Rattle.cgx_format_kinds.specs.declared.DataType.{DataType}
 use Rattle.cgx_format_kinds.specs.declared.Point.{Point}
-use Rattle.cgx_write_given.specs.declared.EndStyle.{EndStyle}
-use Rattle.cgx_write_given.specs.declared.EndStyle.TheVariants.{Unstated, Stated}
-use Rattle.cgx_write_given.specs.declared.Grid.{Grid}
+use Rattle.cgx_format_kinds.specs.declared.Grid.{Grid}
 use Rattle.cgx_write_given.specs.declared.Writer.{Writer}
 use Rattle.cgx_write_given.specs.Given.{Given, keeps_given, meant, written, style_of, given_library, given_struct, given_cprpty, given_property, given_layer, given_box, given_poly, given_wire, given_text, given_sref, given_endlib}
 use Rattle.cgx_write_given.specs.Typed.{Short, Long, Longs, IsDate, IsPoint, IsGrid, WellTyped, AllWell}
-use Rattle.cgx_write_given.specs.Writing.{offset_of, context_of, first_writer, writer_after, max_size, allowed_here, rules_of, call_in, start_in, History, from_start, file_of}
+use Rattle.cgx_write_given.specs.Writing.{offset_of, context_of, first_writer, writer_after, max_size, allowed_here, rules_of, is_taken, number_in, writer_or, call_in, start_in, History, from_start, file_of}
 use Rattle.cgx_write_given.specs.Specimens.{drawing_calls, stamped_calls}
 
 -- ---- what is given
@@ -28,7 +25,7 @@ use Rattle.cgx_write_given.specs.Specimens.{drawing_calls, stamped_calls}
 -- Records that keep all rules but 14 and 16, one after another from a writer on, the last of them ENDLIB.
 abbrev pub Whole : Writer → List Given → Type 0
 Whole w [] = (context_of w).ended ≡ true
-Whole w (g ∷ gs) = WellTyped g × (broken (rules_of (context_of w) g) ≡ none) × Whole (writer_after w g) gs
+Whole w (g ∷ gs) = WellTyped g × (broken (rules_of (context_of w) g) ≡ None) × Whole (writer_after w g) gs
 
 -- The bytes up to the writer's place are those of the records taken, an accepted file that means them, and its own normal form.
 pub record ReadBack (h : History) : Type 0 where
@@ -48,7 +45,7 @@ pub record Stops (buf : List ℕ) (gs : List Given) : Type 0 where
   pub taken : (from_start buf before).taken ≡ before
   pub fits : length (file_of before) ≤ length buf
   pub lacks : length buf < length (file_of (before ++ (first ∷ [])))
-  pub fourteen : let h = from_start buf before in call_in h.buffer h.writer first ≡ record { answer = record { number = 14; at = 0; writer = h.writer }; buffer = h.buffer }
+  pub fourteen : let h = from_start buf before in call_in h.buffer h.writer first ≡ record { answer = Err (record { number = 14; at = None }); buffer = h.buffer }
 
 -- ---- the round trip
 
@@ -64,27 +61,27 @@ pub record RoundTrip : Type 0 where
 -- ---- the buffer
 
 pub record Untouched : Type 0 where
-  -- "all other bytes of the buffer stay": those before the writer's offset, and those from the offset of the writer handed back on.
-  pub outside : (buf : List ℕ) (w : Writer) (g : Given) (i : ℕ) → let o = call_in buf w g in (i < offset_of w) ⊎ (offset_of o.answer.writer ≤ i) → get_or o.buffer i 0 ≡ get_or buf i 0
+  -- "all other bytes of the buffer stay": those before the writer's offset, and those from the offset of the writer to go on with.
+  pub outside : (buf : List ℕ) (w : Writer) (g : Given) (i : ℕ) → let o = call_in buf w g in (i < offset_of w) ⊎ (offset_of (writer_or w o.answer) ≤ i) → get_or o.buffer i 0 ≡ get_or buf i 0
   pub length-stays : (buf : List ℕ) (w : Writer) (g : Given) → length (call_in buf w g).buffer ≡ length buf
-  -- A refusal changes no byte, and "hands back its old place".
-  pub refusal : (buf : List ℕ) (w : Writer) (g : Given) → let o = call_in buf w g in (o.answer.number ≡ 0 → ⊥) → (o.buffer ≡ buf) × (o.answer.writer ≡ w)
+  -- A refusal changes no byte, and "hands back its old place": the writer to go on with is the one that was given.
+  pub refusal : (buf : List ℕ) (w : Writer) (g : Given) → let o = call_in buf w g in is_taken o.answer ≡ false → (o.buffer ≡ buf) × (writer_or w o.answer ≡ w)
   -- A start stores the four bytes and no other; "14 if the buffer is shorter".
-  pub start-stores : (buf : List ℕ) → 4 ≤ length buf → ((start_in buf).answer ≡ 0) × (take 4 (start_in buf).buffer ≡ header) × (length (start_in buf).buffer ≡ length buf)
+  pub start-stores : (buf : List ℕ) → 4 ≤ length buf → ((start_in buf).answer ≡ Ok first_writer) × (take 4 (start_in buf).buffer ≡ header) × (length (start_in buf).buffer ≡ length buf)
   pub start_outside : (buf : List ℕ) (i : ℕ) → 4 ≤ i → get_or (start_in buf).buffer i 0 ≡ get_or buf i 0
-  pub start-short : (buf : List ℕ) → length buf < 4 → start_in buf ≡ record { answer = 14; buffer = buf }
+  pub start-short : (buf : List ℕ) → length buf < 4 → start_in buf ≡ record { answer = Err (record { number = 14; at = None }); buffer = buf }
 
 -- ---- the rules
 
 pub record RulesPromises : Type 0 where
   -- The writer refuses a record with just the number with which a reader would refuse its bytes: texts with a zero byte and records above the size limit, which have
   -- no such bytes, apart.
-  pub same-rules : (c : Context) (g : Given) → WellTyped g → keeps_given 11 g ≡ true → size (written g) ≤ max_size → broken (rules_of c g) ≡ cond c.ended (some 6) (fault_of c (written g))
+  pub same-rules : (c : Context) (g : Given) → WellTyped g → keeps_given 11 g ≡ true → size (written g) ≤ max_size → broken (rules_of c g) ≡ cond c.ended (Some 6) (fault_of c (written g))
   -- A refusal's number is 6 to 12, at the place "where it would begin", or 14, 15 or 16, which name none.
-  pub numbered : (buf : List ℕ) (w : Writer) (g : Given) → let a = (call_in buf w g).answer in (a.number ≡ 0 → ⊥)
-      → ((6 ≤ a.number) × (a.number ≤ 12) × (a.at ≡ offset_of w)) ⊎ ((14 ≤ a.number) × (a.number ≤ 16) × (a.at ≡ 0))
-  -- A record that is taken names no offset, and the writer goes on after it.
-  pub goes_on : (buf : List ℕ) (w : Writer) (g : Given) → let a = (call_in buf w g).answer in a.number ≡ 0 → a ≡ record { number = 0; at = 0; writer = writer_after w g }
+  pub numbered : (buf : List ℕ) (w : Writer) (g : Given)
+      → IfErr (call_in buf w g).answer (λ r. ((6 ≤ r.number) × (r.number ≤ 12) × (r.at ≡ Some (offset_of w))) ⊎ ((14 ≤ r.number) × (r.number ≤ 16) × (r.at ≡ None)))
+  -- After a record that is taken the writer goes on.
+  pub goes_on : (buf : List ℕ) (w : Writer) (g : Given) → let a = (call_in buf w g).answer in is_taken a ≡ true → a ≡ Ok (writer_after w g)
 
 -- ---- the calls of each kind
 
@@ -95,11 +92,11 @@ pub record CallsPromises : Type 0 where
   pub struct : (created modified : Date) (name : List ℕ) → IsDate created → IsDate modified → Bytes name → WellTyped (given_struct created modified name)
   pub cprpty : (number : ℤ) (value : List ℕ) → Long number → Bytes value → WellTyped (given_cprpty number value)
   pub property : (number : ℤ) (value : List ℕ) → Long number → Bytes value → WellTyped (given_property number value)
-  pub layer : (number : LayerNo) (datatype : DataType) → Short number.0 → Short datatype.0 → WellTyped (given_layer number datatype none)
-  pub named-layer : (number : LayerNo) (datatype : DataType) (name : List ℕ) → Short number.0 → Short datatype.0 → Bytes name → WellTyped (given_layer number datatype (some name))
+  pub layer : (number : LayerNo) (datatype : DataType) → Short number.0 → Short datatype.0 → WellTyped (given_layer number datatype None)
+  pub named-layer : (number : LayerNo) (datatype : DataType) (name : List ℕ) → Short number.0 → Short datatype.0 → Bytes name → WellTyped (given_layer number datatype (Some name))
   pub box : (sides : List ℤ) → Longs sides → WellTyped (given_box sides)
   pub poly : (points : List ℤ) → Longs points → WellTyped (given_poly points)
-  pub wire : (style : EndStyle) (width : ℤ) (points : List ℤ) → style_of style < 256 → Long width → Longs points → WellTyped (given_wire style width points)
+  pub wire : (style : Option ℕ) (width : ℤ) (points : List ℤ) → style_of style < 256 → Long width → Longs points → WellTyped (given_wire style width points)
   pub text : (flags : ℕ) (at : Point) (width : ℤ) (label : List ℕ) → flags < 256 → IsPoint at → Long width → Bytes label → WellTyped (given_text flags at width label)
   pub sref : (flags : ℕ) (at : Point) (turn scale : List ℕ) (grid : Grid) (name : List ℕ) → flags < 256 → IsPoint at → IsGrid grid → Bytes name → WellTyped (given_sref flags at turn scale grid name)
   pub endlib : WellTyped given_endlib
@@ -116,7 +113,7 @@ at_second s d = record { year = d.year; month = d.month; day = d.day; hour = d.h
 
 -- A call that is taken with some date is taken with every second up to 60 in it, and answered 9 with any other.
 abbrev pub AnySecond : (Date → Given) → Type 0
-AnySecond call = (buf : List ℕ) (w : Writer) (d : Date) (s : ℕ) → (call_in buf w (call d)).answer.number ≡ 0 → (call_in buf w (call (at_second s d))).answer.number ≡ cond (leb s 60) 0 9
+AnySecond call = (buf : List ℕ) (w : Writer) (d : Date) (s : ℕ) → is_taken (call_in buf w (call d)).answer ≡ true → number_in (call_in buf w (call (at_second s d))).answer ≡ cond (leb s 60) None (Some 9)
 
 pub record GivenSeconds : Type 0 where
   pub library-created : (version : ℕ) (munit uunit : List ℕ) (modified : Date) (name : List ℕ) → AnySecond (λ d. given_library version munit uunit d modified name)
@@ -128,18 +125,18 @@ pub record GivenSeconds : Type 0 where
 
 pub record WireEnds : Type 0 where
   -- It is the call that states 2, in all that it answers and stores.
-  pub unstated : (width : ℤ) (points : List ℤ) → given_wire Unstated width points ≡ given_wire (Stated 2) width points
+  pub unstated : (width : ℤ) (points : List ℤ) → given_wire None width points ≡ given_wire (Some 2) width points
   -- A style that is stated is the one that is written and meant.
-  pub stated : (style : ℕ) (width : ℤ) (points : List ℤ) → let g = given_wire (Stated style) width points in ((written g).flags ≡ style) × ((meant g).flags ≡ style)
+  pub stated : (style : ℕ) (width : ℤ) (points : List ℤ) → let g = given_wire (Some style) width points in ((written g).flags ≡ style) × ((meant g).flags ≡ style)
   -- What else changes by it: no answer, since styles 0 to 2 are answered alike;
   pub answer : (buf : List ℕ) (w : Writer) (style other : ℕ) (width : ℤ) (points : List ℤ) → style ≤ 2 → other ≤ 2
-      → (call_in buf w (given_wire (Stated style) width points)).answer ≡ (call_in buf w (given_wire (Stated other) width points)).answer
+      → (call_in buf w (given_wire (Some style) width points)).answer ≡ (call_in buf w (given_wire (Some other) width points)).answer
   -- and one byte of the buffer, the record's flags.
   pub buffer : (buf : List ℕ) (w : Writer) (style other : ℕ) (width : ℤ) (points : List ℤ)
-      → let o = call_in buf w (given_wire (Stated style) width points) in let o' = call_in buf w (given_wire (Stated other) width points) in
-      o.answer.number ≡ 0 → o'.answer.number ≡ 0 → o.buffer ≡ put o'.buffer (offset_of w + 3) (style ∷ [])
+      → let o = call_in buf w (given_wire (Some style) width points) in let o' = call_in buf w (given_wire (Some other) width points) in
+      is_taken o.answer ≡ true → is_taken o'.answer ≡ true → o.buffer ≡ put o'.buffer (offset_of w + 3) (style ∷ [])
   -- A wire of width 10 through one point: size, type, flags, width, x, y.
-  pub specimen : bytes_of (written (given_wire Unstated (pos 10) (pos 1 ∷ negsuc 0 ∷ [])))
+  pub specimen : bytes_of (written (given_wire None (pos 10) (pos 1 ∷ negsuc 0 ∷ [])))
       ≡ 0 ∷ 16 ∷ 7 ∷ 2 ∷ 0 ∷ 0 ∷ 0 ∷ 10 ∷ 0 ∷ 0 ∷ 0 ∷ 1 ∷ 255 ∷ 255 ∷ 255 ∷ 255 ∷ []
 
 -- ---- specimens
@@ -152,7 +149,7 @@ pub record Specimens : Type 0 where
   pub stamped-whole : Whole first_writer stamped_calls
   pub stamped-file : file_of stamped_calls ≡ stamped 60 60 60 60
   -- "4,096 boxes given to the writer: 15."
-  pub boxes-4096 : (c : Context) (sides : List ℤ) → allowed_here c (given_box sides) ≡ true → in_order sides ≡ true → length sides ≡ 16384 → broken (rules_of c (given_box sides)) ≡ some 15
+  pub boxes-4096 : (c : Context) (sides : List ℤ) → allowed_here c (given_box sides) ≡ true → in_order sides ≡ true → length sides ≡ 16384 → broken (rules_of c (given_box sides)) ≡ Some 15
 
 pub record WriterPromises : Type 0 where
   pub round : RoundTrip

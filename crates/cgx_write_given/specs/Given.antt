@@ -1,6 +1,5 @@
 -- What a call of the writer gives: a kind, flags, and an item for each field. What it means, the rules on it, and the record that is written. Definitions only.
-use Rattle.std.specs.Prelude.{Bool, true, false, not, ◌&&◌, ◌||◌, cond, List, [], ◌∷◌, ◌++◌, map, ℕ, ◌/◌, ◌%◌, ◌-◌, leb, eqb, ℤ, length, take, drop}
-use Rattle.std.proofs.Math.Option.{Option, none, some}
+use Rattle.std.specs.Prelude.{Bool, true, false, not, ◌&&◌, ◌||◌, cond, List, [], ◌∷◌, ◌++◌, map, ℕ, ◌/◌, ◌%◌, ◌-◌, leb, eqb, ℤ, length, take, drop, None, Option, Some}
 use Rattle.std.specs.Int.Signed.{le_z}
 use Rattle.cgx_spec.specs.declared.Kind.{Kind}
 use Rattle.cgx_spec.specs.declared.Kind.TheVariants.{Library, Struct, Cprpty, Property, Layer, Box, Poly, Wire, Text, Sref, Endlib}
@@ -18,11 +17,9 @@ use Rattle.cgx_format_kinds.specs.declared.Point.{Point}
 use Rattle.cgx_format_kinds.specs.Meant.{date_numbers}
 use Rattle.cgx_format_fields.specs.Zeros.{no_zero}
 use Rattle.buffers.specs.Put.{longs_bytes}
-use Rattle.cgx_write_given.specs.declared.EndStyle.{EndStyle}
-use Rattle.cgx_write_given.specs.declared.EndStyle.TheVariants.{Unstated, Stated}
 use Rattle.cgx_write_given.specs.declared.Owner.{Owner}
 use Rattle.cgx_write_given.specs.declared.Owner.TheVariants.{Cell, Object}
-use Rattle.cgx_write_given.specs.declared.Grid.{Grid}
+use Rattle.cgx_format_kinds.specs.declared.Grid.{Grid}
 
 -- ---- what is given for a field
 
@@ -153,13 +150,13 @@ written g = record { type = type_for g.kind; flags = flags_of g.kind g.flags; bo
 abbrev pub default_style : ℕ
 default_style = 2
 
-abbrev pub style_of : EndStyle → ℕ
-style_of Unstated = default_style
-style_of (Stated s) = s
+abbrev pub style_of : Option ℕ → ℕ
+style_of None = default_style
+style_of (Some s) = s
 
 abbrev pub optional_text : Option (List ℕ) → Item
-optional_text none = nothing
-optional_text (some t) = words t
+optional_text None = nothing
+optional_text (Some t) = words t
 
 abbrev pub long : ℤ → Item
 long z = list (z ∷ [])
@@ -201,7 +198,7 @@ given_box sides = record { kind = Box; flags = 0; items = list sides ∷ [] }
 unfoldable pub given_poly : List ℤ → Given
 given_poly points = record { kind = Poly; flags = 0; items = list points ∷ [] }
 
-unfoldable pub given_wire : EndStyle → ℤ → List ℤ → Given
+unfoldable pub given_wire : Option ℕ → ℤ → List ℤ → Given
 given_wire style width points = record { kind = Wire; flags = style_of style; items = long width ∷ list points ∷ [] }
 
 unfoldable pub given_text : ℕ → Point → ℤ → List ℕ → Given

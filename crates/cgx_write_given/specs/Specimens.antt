@@ -1,6 +1,5 @@
 -- The calls that write 01's drawing of 96 bytes, and the same on leap seconds. Definitions only.
-use Rattle.std.specs.Prelude.{List, [], ◌∷◌, ℕ, pos, negsuc}
-use Rattle.std.proofs.Math.Option.{none}
+use Rattle.std.specs.Prelude.{List, [], ◌∷◌, ℕ, pos, negsuc, None}
 use Rattle.cgx_format_kinds.specs.declared.Date.{Date}
 use Rattle.cgx_write_given.specs.Given.{Given, given_library, given_struct, given_layer, given_box, given_endlib}
 
@@ -23,7 +22,7 @@ abbrev pub drawn_at : ℕ → ℕ → ℕ → ℕ → List Given
 drawn_at a b c d =
     given_library 7 normal_one other_one (begun a) (begun b) (0x6d ∷ [])
     ∷ given_struct (ended c) (ended d) (0x61 ∷ [])
-    ∷ given_layer (record { 0 = pos 1 }) (record { 0 = pos 0 }) none
+    ∷ given_layer (record { 0 = pos 1 }) (record { 0 = pos 0 }) None
     ∷ given_box (negsuc 0 ∷ pos 0 ∷ pos 10 ∷ pos 20 ∷ [])
     ∷ given_endlib
     ∷ []

@@ -1,7 +1,7 @@
 -- An SREF as the code computes it: what is stored of the fields that its flags tell of, and its size. Definitions only.
 use Rattle.std.specs.Prelude.{Bool, List, ◌++◌, ℕ, ◌+◌, ◌*◌, ◌/◌}
 use Rattle.cgx_format_sref.specs.Layouts.{sref_layout}
-use Rattle.cgx_write_given.specs.declared.Grid.{Grid}
+use Rattle.cgx_format_kinds.specs.declared.Grid.{Grid}
 use Rattle.cgx_write_given.specs.Given.{eight, long, point, if_set, stored}
 
 -- What is stored of fields that are there only where their flag is set: an angle or a magnif; columns, rows and the two points.

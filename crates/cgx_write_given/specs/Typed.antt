@@ -4,7 +4,7 @@ use Rattle.cgx_spec.specs.Numbers.{Bytes, InRange}
 use Rattle.cgx_spec.specs.Fields.{Test, Field, real, positive, date, short, longs, string, optional, absent}
 use Rattle.cgx_format_kinds.specs.declared.Date.{Date}
 use Rattle.cgx_format_kinds.specs.declared.Point.{Point}
-use Rattle.cgx_write_given.specs.declared.Grid.{Grid}
+use Rattle.cgx_format_kinds.specs.declared.Grid.{Grid}
 use Rattle.cgx_write_given.specs.Given.{Item, eight, day, small, list, words, nothing, Given, fields_of}
 
 abbrev pub Short : ℤ → Type 0

@@ -1,8 +1,9 @@
 -- What the writer does with what it is given: the start, one call, and calls one after another. Definitions only.
-use Rattle.std.specs.Prelude.{Bool, not, ◌&&◌, cond, List, [], ◌∷◌, ◌++◌, map, ℕ, ◌+◌, leb, eqb, length}
-use Rattle.std.proofs.Math.Option.{Option, none, some}
+use Rattle.std.specs.Prelude.{Bool, not, ◌&&◌, cond, List, [], ◌∷◌, ◌++◌, map, ℕ, ◌+◌, leb, length, None, Option, Some, Result, Ok, Err, is_ok}
+use Rattle.std.specs.Result.{result_unwrap_or}
 use Rattle.cgx_spec.specs.declared.Context.{Context}
 use Rattle.cgx_spec.specs.declared.Place.{Place}
+use Rattle.cgx_spec.specs.declared.Refusal.{Refusal}
 use Rattle.cgx_spec.specs.Dates.{within}
 use Rattle.cgx_spec.specs.Fields.{join}
 use Rattle.cgx_spec.specs.Kinds.{good_flags}
@@ -13,7 +14,6 @@ use Rattle.cgx_spec.specs.Walking.{first_place, place_after, forged}
 use Rattle.cgx_format_cursor.specs.Cursors.{context_in, place_in, cursor_of}
 use Rattle.buffers.specs.Put.{put}
 use Rattle.cgx_write_given.specs.declared.Writer.{Writer}
-use Rattle.cgx_write_given.specs.declared.Answer.{Answer}
 use Rattle.cgx_write_given.specs.Given.{Given, enough_given, keeps_given, written}
 
 -- ---- a writer
@@ -47,7 +47,7 @@ max_size = 65534
 
 -- "Nothing follows ENDLIB (6)."
 abbrev pub allowed_here : Context → Given → Bool
-allowed_here c g = not c.ended && allowed c (some g.kind)
+allowed_here c g = not c.ended && allowed c (Some g.kind)
 
 -- 6, 7 to 12, 15: what the record itself breaks after this context.
 unfoldable pub rules_of : Context → Given → List Rule
@@ -62,16 +62,32 @@ rules_of c g =
 unfoldable pub checks : ℕ → Writer → Given → List Rule
 checks n w g = rule 16 (not (forged n (place_of w))) ∷ (rules_of (context_of w) g ++ (rule 14 (leb (offset_of w + size (written g)) n) ∷ []))
 
--- "The record's place is where it would begin": 6 to 12 name it, "a later number with no place stated names none", which is 0.
-abbrev pub named : ℕ → ℕ → ℕ
-named n at = cond (within 6 12 n) at 0
+-- "The record's place is where it would begin": 6 to 12 name it, "a later number with no place stated names none".
+abbrev pub named : ℕ → ℕ → Option ℕ
+named n at = cond (within 6 12 n) (Some at) None
 
 -- ---- one call
 
+-- The writer after the record, or why the call is refused.
+abbrev pub Answer : Type 0
+Answer = Result Writer Refusal
+
+abbrev pub is_taken : Answer → Bool
+is_taken a = is_ok a
+
+-- The number of the refusal, if any.
+abbrev pub number_in : Answer → Option ℕ
+number_in (Ok v) = None
+number_in (Err r) = Some r.number
+
+-- The writer to go on with: after a refusal, the one that the call was given.
+abbrev pub writer_or : Writer → Answer → Writer
+writer_or w a = result_unwrap_or a w
+
 -- What is answered where no rule is broken, or the one with this number.
 unfoldable pub answered : Writer → Given → Option ℕ → Answer
-answered w g none = record { number = 0; at = 0; writer = writer_after w g }
-answered w g (some n) = record { number = n; at = named n (offset_of w); writer = w }
+answered w g None = Ok (writer_after w g)
+answered w g (Some n) = Err (record { number = n; at = named n (offset_of w) })
 
 -- What a call answers where the buffer has n bytes.
 unfoldable pub planned : ℕ → Writer → Given → Answer
@@ -82,9 +98,6 @@ pub record Outcome : Type 0 where
   pub answer : Answer
   pub buffer : List ℕ
 
-abbrev pub is_taken : Answer → Bool
-is_taken a = eqb a.number 0
-
 unfoldable pub call_in : List ℕ → Writer → Given → Outcome
 call_in buf w g =
     let a = planned (length buf) w g in
@@ -92,14 +105,9 @@ call_in buf w g =
 
 -- ---- the start
 
--- The number, 0 where `first_writer` may go on, and the buffer.
-pub record Begun : Type 0 where
-  pub answer : ℕ
-  pub buffer : List ℕ
-
 -- "The writer starts with the four bytes (14 if the buffer is shorter)."
-unfoldable pub start_in : List ℕ → Begun
-start_in buf = cond (leb 4 (length buf)) (record { answer = 0; buffer = put buf 0 header }) (record { answer = 14; buffer = buf })
+unfoldable pub start_in : List ℕ → Outcome
+start_in buf = cond (leb 4 (length buf)) (record { answer = Ok first_writer; buffer = put buf 0 header }) (record { answer = Err (record { number = 14; at = None }); buffer = buf })
 
 -- ---- calls one after another
 
@@ -116,7 +124,7 @@ unfoldable pub calls : List ℕ → Writer → List Given → History
 calls buf w [] = record { taken = []; writer = w; buffer = buf }
 calls buf w (g ∷ gs) =
     let o = call_in buf w g in
-    let h = calls o.buffer o.answer.writer gs in
+    let h = calls o.buffer (writer_or w o.answer) gs in
     record { taken = if_taken o.answer g h.taken; writer = h.writer; buffer = h.buffer }
 
 -- "from a fresh start"

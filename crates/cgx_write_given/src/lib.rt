@@ -13,31 +13,19 @@ use cgx_format_kinds::{
     Boxes, Date, Layer, Library, Point, Poly, Property, Sref, Struct, Text, Wire,
 };
 use cgx_format_sref::sref_layout;
-use cgx_spec::Kind;
+use cgx_spec::{Kind, Refusal};
 use numbers::{LONG_SIZE, WordBytes, short_bytes};
 
 // ---- what is given
 
-// A wire's end style, or none stated.
-#[derive(Clone, Copy)]
-pub enum EndStyle {
-    Unstated,
-    Stated(u8),
-}
+// The end style of a wire written without one: extended by half its width.
+pub const DEFAULT_STYLE: u8 = 2;
 
-impl EndStyle {
-    // Extended by half the wire's width.
-    pub const DEFAULT: u8 = 2;
-
-    // The flags that a wire is written with.
-    pub fn flags(self) -> u8
-        ensures { result ≡ style_of self }
-    {
-        match self {
-            EndStyle::Unstated => EndStyle::DEFAULT,
-            EndStyle::Stated(style) => style,
-        }
-    }
+// The flags that a wire is written with. A number and no enum: a style above 2 can be given, and is refused with 7 (the C interface, and `given_wire`, which may not change).
+pub fn style_flags(style: Option<u8>) -> u8
+    ensures { result ≡ style_of style }
+{
+    style.unwrap_or(DEFAULT_STYLE)
 }
 
 // What a property is of: the cell (CPRPTY), or the object that follows (PROPERTY).
@@ -48,6 +36,7 @@ pub enum Owner {
 }
 
 impl Owner {
+    // A name that says what it gives: `Kind::from(owner)` would be no plainer.
     pub fn kind(self) -> Kind
         ensures { result ≡ property_kind self }
     {
@@ -58,16 +47,7 @@ impl Owner {
     }
 }
 
-// The array of an SREF: it counts where flag 8 is set.
-#[derive(Clone, Copy)]
-pub struct Grid {
-    pub cols: i32,
-    pub rows: i32,
-    pub across: Point,
-    pub up: Point,
-}
-
-// The bytes that a date is written with. The writer checks these by the reader's own rule, so that there is one date rule.
+// The bytes that a date is written with, by a function that says so: bytes `from` a date would be no plainer. The writer checks these by the reader's own rule, so that there is one date rule.
 pub fn date_bytes(d: Date) -> WordBytes
     ensures { result ≡ date_bytes d }
 {
@@ -82,11 +62,7 @@ pub fn date_bytes(d: Date) -> WordBytes
 pub fn all_longs(zs: &[i32])
     ensures { Longs zs.now }
 {
-    let mut i = 0;
-    while i < zs.len() {
-        let z = zs[i];
-        i += 1;
-    }
+    for &z in zs {}
 }
 
 // ---- what is answered
@@ -108,18 +84,13 @@ impl Writer {
     }
 }
 
-// What a call answers: 0 and the writer after the record; or the number of the refusal, the offset that it names and the writer as it was given. No record has offset 0, so
-// that 0 is none.
-#[derive(Clone, Copy)]
-pub struct Answer {
-    pub number: u8,
-    pub at: usize,
-    pub writer: Writer,
-}
+// What a call answers: the writer after the record, or why it is refused. A refused call changes nothing: its writer, which the caller still has, may go on.
+pub type Answer = Result<Writer, Refusal>;
 
 // ---- sizes: of the record that each call writes
 
 // LIBRARY, STRUCT, CPRPTY, PROPERTY, a LAYER with a name and TEXT end in a text: their smallest size has the empty one, and each whole pair of bytes adds two.
+// A function a kind, whose name says which record is measured: one that is given the smallest size would be no plainer.
 pub fn library_size(name: &[u8]) -> usize
     ensures { result ≡ 38 + length name.now / 2 * 2 }
 {

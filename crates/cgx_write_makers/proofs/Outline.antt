@@ -1,5 +1,6 @@
 -- The records that the makers append: their stores and their room. Assumes nothing.
-use mathlib.Core.Path.{◌≡◌, refl, sym, ap, ap₂, ◌∙◌}
+use mathlib.Core.Path.{◌≡◌, sym, ap, ap₂, ◌∙◌}
+use mathlib.Core.Bool.{true}
 use mathlib.Core.List.{List, [], ◌∷◌, ◌++◌}
 use Prim.Native.Nat.{ℕ, ◌+◌, ◌*◌, ◌/◌, ◌≤◌}
 use native.Mathlib.Omega.{arith}
@@ -13,7 +14,7 @@ use Rattle.buffers.specs.Put.{put}
 use Rattle.cgx_format_kinds.specs.declared.Point.{Point}
 use Rattle.cgx_write_given.specs.declared.Writer.{Writer}
 use Rattle.cgx_write_given.specs.Given.{Given, written}
-use Rattle.cgx_write_given.specs.Writing.{offset_of, writer_after}
+use Rattle.cgx_write_given.specs.Writing.{offset_of, writer_after, is_taken}
 use Rattle.cgx_write_given.proofs.Sizes.{layer-size, wire-size, label-size}
 use Rattle.cgx_write_given.proofs.Unforged.{after_is}
 use Rattle.cgx_write_plans.proofs.Order.{call_fits}
@@ -52,17 +53,17 @@ module _ (zs : List ℤ) (w : Writer) where
       ap₂ (λ (k j : ℕ). put (put (put buf (offset_of w) (bytes_of (written card_layer))) k (bytes_of (written (card_wire zs)))) j (bytes_of (written (caption p t)))) (sym wire-at) (e ∙ sym caption-at)
 
   -- a plan that is taken leaves room
-  pub outline-fits : (room : ℕ) (gs : List Given) → (all_planned room w (card_layer ∷ card_wire zs ∷ gs)).number ≡ 0 → (offset_of w + (16 + 4 * length zs) ≤ room) × (8 + 4 * length zs ≤ 65534)
+  pub outline-fits : (room : ℕ) (gs : List Given) → is_taken (all_planned room w (card_layer ∷ card_wire zs ∷ gs)) ≡ true → (offset_of w + (16 + 4 * length zs) ≤ room) × (8 + 4 * length zs ≤ 65534)
   outline-fits room gs z =
       let g = plan-good room second (card_wire zs) gs (plan-good room w card_layer (card_wire zs ∷ gs) z).1 in
-      let h = call_fits room second (card_wire zs) _ (8 + 4 * length zs) (sym g.0) refl (wire-size card_style (pos 2) zs) in
+      let h = call_fits room second (card_wire zs) _ (8 + 4 * length zs) g.0 (wire-size card_style (pos 2) zs) in
       (omega (arith, h.room, wire-at), h.small)
 
-  pub frame-fits : (room : ℕ) (p : Point) (t : List ℕ) → (all_planned room w (outline zs ++ (caption p t ∷ []))).number ≡ 0 → (offset_of w + (16 + 4 * length zs) + (18 + length t / 2 * 2) ≤ room) × (18 + length t / 2 * 2 ≤ 65534)
+  pub frame-fits : (room : ℕ) (p : Point) (t : List ℕ) → is_taken (all_planned room w (outline zs ++ (caption p t ∷ []))) ≡ true → (offset_of w + (16 + 4 * length zs) + (18 + length t / 2 * 2) ≤ room) × (18 + length t / 2 * 2 ≤ 65534)
   frame-fits room p t z =
       let k = (plan-good room second (card_wire zs) (caption p t ∷ []) (plan-good room w card_layer (card_wire zs ∷ caption p t ∷ []) z).1).1 in
       let g = plan-good room third (caption p t) [] k in
-      let h = call_fits room third (caption p t) _ (18 + length t / 2 * 2) (sym g.0) refl (label-size 0 p (pos 2) t) in
+      let h = call_fits room third (caption p t) _ (18 + length t / 2 * 2) g.0 (label-size 0 p (pos 2) t) in
       (omega (arith, h.room, caption-at), h.small)
 
 -- the sides as a call is given them

@@ -1,13 +1,9 @@
 -- What the makers append, and how: all or nothing. Definitions only.
-use Rattle.std.specs.Prelude.{cond, List, [], ◌∷◌, ◌++◌, ℕ, ℤ, pos}
-use Rattle.std.proofs.Math.Option.{none}
+use Rattle.std.specs.Prelude.{cond, List, [], ◌∷◌, ◌++◌, ℕ, ℤ, pos, None, Option, Some, Ok}
 use Rattle.cgx_format_kinds.specs.declared.Point.{Point}
-use Rattle.cgx_write_given.specs.declared.EndStyle.{EndStyle}
-use Rattle.cgx_write_given.specs.declared.EndStyle.TheVariants.{Stated}
 use Rattle.cgx_write_given.specs.declared.Writer.{Writer}
-use Rattle.cgx_write_given.specs.declared.Answer.{Answer}
 use Rattle.cgx_write_given.specs.Given.{Given, given_layer, given_wire, given_text}
-use Rattle.cgx_write_given.specs.Writing.{Outcome, is_taken, call_in}
+use Rattle.cgx_write_given.specs.Writing.{Outcome, is_taken, writer_or, call_in}
 
 -- ---- what is appended
 
@@ -17,11 +13,11 @@ corners left bottom right top = left ∷ bottom ∷ right ∷ bottom ∷ right �
 
 -- "LAYER 1, data type 0, unnamed, and a wire of width 2"
 abbrev pub card_layer : Given
-card_layer = given_layer (record { 0 = pos 1 }) (record { 0 = pos 0 }) none
+card_layer = given_layer (record { 0 = pos 1 }) (record { 0 = pos 0 }) None
 
 -- Req 08: the makers "relied on flush ends, and shall say 0 themselves".
-abbrev pub card_style : EndStyle
-card_style = Stated 0
+abbrev pub card_style : Option ℕ
+card_style = Some 0
 
 abbrev pub card_wire : List ℤ → Given
 card_wire points = given_wire card_style (pos 2) points
@@ -43,17 +39,13 @@ frame_calls left bottom right top label = card_calls left bottom right top ++ (c
 
 -- "its records taken in turn": calls one after another, up to the first refusal.
 unfoldable pub in_turn : List ℕ → Writer → List Given → Outcome
-in_turn buf w [] = record { answer = record { number = 0; at = 0; writer = w }; buffer = buf }
+in_turn buf w [] = record { answer = Ok w; buffer = buf }
 in_turn buf w (g ∷ gs) =
     let o = call_in buf w g in
-    cond (is_taken o.answer) (in_turn o.buffer o.answer.writer gs) o
+    cond (is_taken o.answer) (in_turn o.buffer (writer_or w o.answer) gs) o
 
--- A refusal hands back the writer that there was before them all.
-abbrev pub handed_back : Writer → Answer → Answer
-handed_back w a = record { number = a.number; at = a.at; writer = cond (is_taken a) a.writer w }
-
--- "Each appends all or nothing and answers the first refusal."
+-- "Each appends all or nothing and answers the first refusal.", after which the writer that there was before them all goes on.
 unfoldable pub all_in : List ℕ → Writer → List Given → Outcome
 all_in buf w gs =
     let o = in_turn buf w gs in
-    record { answer = handed_back w o.answer; buffer = cond (is_taken o.answer) o.buffer buf }
+    record { answer = o.answer; buffer = cond (is_taken o.answer) o.buffer buf }

@@ -8,11 +8,11 @@ ghost use Rattle.buffers.specs.Put.{put};
 ghost use Rattle.cgx_write_given.specs.Given.{written};
 ghost use Rattle.cgx_write_given.specs.Typed.{AllWell};
 ghost use Rattle.cgx_write_given.specs.Writing.{max_size};
-ghost use Rattle.cgx_write_makers.specs.Makers.{corners, card_layer, card_wire, outline, caption, card_calls, frame_calls, handed_back, all_in};
+ghost use Rattle.cgx_write_makers.specs.Makers.{corners, card_layer, card_wire, outline, caption, card_calls, frame_calls, all_in};
 ghost use Rattle.cgx_write_makers.specs.Planned.{all_planned};
 
 use cgx_format_kinds::{DataType, Layer, LayerNo, Point};
-use cgx_write_given::{Answer, EndStyle, Writer, wire_size};
+use cgx_write_given::{Answer, Writer, wire_size};
 use cgx_write_plans::{plan_layer, plan_text, plan_wire};
 use cgx_write_stores::{store_layer, store_text, store_wire};
 
@@ -29,14 +29,9 @@ pub fn test_card(
     ensures typed { AllWell (card_calls left bottom right top) }
 {
     let corners = corners_of(left, bottom, right, top);
-    let planned = plan_outline(buf.len(), writer, &corners);
-    let answer = handed_back(writer, planned);
-    if answer.number != 0 {
-        return answer;
-    }
-    let cursor = writer.cursor;
-    store_outline(buf, cursor.at, &corners);
-    answer
+    let after = plan_outline(buf.len(), writer, &corners)?;
+    store_outline(buf, writer.cursor.at, &corners);
+    Ok(after)
 }
 
 // The studio's caption frame: the same two records, and a TEXT at the left and the bottom.
@@ -54,15 +49,10 @@ pub fn caption_frame(
 {
     let corners = corners_of(left, bottom, right, top);
     let at = Point { x: left, y: bottom };
-    let planned = plan_frame(buf.len(), writer, &corners, at, label);
-    let answer = handed_back(writer, planned);
-    if answer.number != 0 {
-        return answer;
-    }
-    let cursor = writer.cursor;
-    let to = store_outline(buf, cursor.at, &corners);
+    let after = plan_frame(buf.len(), writer, &corners, at, label)?;
+    let to = store_outline(buf, writer.cursor.at, &corners);
     store_text(buf, to, 0, at, WIDTH, label);
-    answer
+    Ok(after)
 }
 
 // The width of the wire and of the caption.
@@ -71,39 +61,20 @@ const WIDTH: i32 = 2;
 // The wire's ends are flush, whatever a wire without a style gets.
 const STYLE: u8 = 0;
 
-// A refusal hands back the writer that the maker was given.
-fn handed_back(w: Writer, planned: Answer) -> Answer
-    ensures { result ≡ handed_back w planned }
-{
-    let next = planned.writer;
-    let writer = if planned.number == 0 { next } else { w };
-    Answer {
-        number: planned.number,
-        at: planned.at,
-        writer,
-    }
-}
-
 // ---- the plans: what the last record answers, or the first that is refused
 
 fn plan_outline(room: usize, w: Writer, points: &[i32]) -> Answer
     ensures { result ≡ all_planned room w (outline points.now) }
 {
-    let layer = plan_layer(room, w, LayerNo(1), DataType(0));
-    if layer.number != 0 {
-        return layer;
-    }
-    plan_wire(room, layer.writer, EndStyle::Stated(STYLE), WIDTH, points)
+    let next = plan_layer(room, w, LayerNo(1), DataType(0))?;
+    plan_wire(room, next, Some(STYLE), WIDTH, points)
 }
 
 fn plan_frame(room: usize, w: Writer, points: &[i32], at: Point, label: &[u8]) -> Answer
     ensures { result ≡ all_planned room w (outline points.now ++ (caption at label.now ∷ [])) }
 {
-    let planned = plan_outline(room, w, points);
-    if planned.number != 0 {
-        return planned;
-    }
-    plan_text(room, planned.writer, 0, at, WIDTH, label)
+    let next = plan_outline(room, w, points)?;
+    plan_text(room, next, 0, at, WIDTH, label)
 }
 
 // ---- the two records that both makers append
@@ -124,6 +95,6 @@ fn store_outline(buf: &mut [u8], at: usize, points: &[i32]) -> usize
 {
     let next = at + Layer::MIN_SIZE;
     store_layer(buf, at, LayerNo(1), DataType(0));
-    store_wire(buf, next, EndStyle::Stated(STYLE), WIDTH, points);
+    store_wire(buf, next, Some(STYLE), WIDTH, points);
     next + wire_size(points)
 }

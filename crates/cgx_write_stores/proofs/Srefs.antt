@@ -21,7 +21,7 @@ use Rattle.buffers.proofs.Puts.{put-nil, put_next}
 use Rattle.cgx_format_kinds.specs.declared.Point.{Point}
 use Rattle.cgx_format_sref.specs.declared.SrefLayout.{SrefLayout}
 use Rattle.cgx_format_sref.specs.Layouts.{sref_layout, Laid}
-use Rattle.cgx_write_given.specs.declared.Grid.{Grid}
+use Rattle.cgx_format_kinds.specs.declared.Grid.{Grid}
 use Rattle.cgx_write_given.specs.Given.{long, point, if_set, stored, written, given_sref}
 use Rattle.cgx_write_given.specs.Srefs.{real_if, grid_if, sref_size}
 use Rattle.cgx_write_given.proofs.Srefs.{after-real, after-grid, sref-size}

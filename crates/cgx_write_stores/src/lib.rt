@@ -2,7 +2,6 @@
 #![tactic(auto)]
 
 ghost use Rattle.std.specs.Prelude.{◌≡◌, true, [], ◌∷◌, ◌++◌, ◌+◌, ◌*◌, ◌/◌, ◌%◌, ◌≤◌, length};
-ghost use Rattle.std.proofs.Math.Option.{none, some};
 ghost use Rattle.cgx_spec.specs.Numbers.{short_bytes};
 ghost use Rattle.cgx_spec.specs.Reals.{normal_real};
 ghost use Rattle.cgx_spec.specs.Kinds.{flags_of, type_for};
@@ -13,13 +12,13 @@ ghost use Rattle.cgx_write_given.specs.Srefs.{real_if, grid_if, sref_size};
 ghost use Rattle.cgx_write_given.specs.Writing.{max_size};
 
 use buffers::{put_bytes, put_each, put_long, put_longs, put_short, put_text};
-use cgx_format_kinds::{Boxes, DataType, Date, Endlib, Layer, LayerNo, Point};
+use cgx_format_kinds::{Boxes, DataType, Date, Endlib, Grid, Layer, LayerNo, Point};
 use cgx_format_sref::sref_layout;
 use cgx_normal_copy::flags_meant;
 use cgx_spec::Kind;
 use cgx_write_given::{
-    EndStyle, Grid, Owner, box_size, date_bytes, library_size, named_size, poly_size,
-    property_size, sref_size, struct_size, text_size, wire_size,
+    Owner, box_size, date_bytes, library_size, named_size, poly_size, property_size, sref_size,
+    struct_size, style_flags, text_size, wire_size,
 };
 use numbers::WordBytes;
 use reals::normal_bytes;
@@ -67,7 +66,7 @@ pub fn store_property(buf: &mut [u8], at: usize, owner: Owner, number: i32, valu
 
 pub fn store_layer(buf: &mut [u8], at: usize, number: LayerNo, datatype: DataType)
     requires { at + 8 ≤ length buf.old }
-    ensures { buf.new ≡ put buf.old at (bytes_of (written (given_layer number datatype none))) }
+    ensures { buf.new ≡ put buf.old at (bytes_of (written (given_layer number datatype None))) }
 {
     put_header(buf, at, Kind::Layer, 0, Layer::MIN_SIZE);
     put_layer_numbers(buf, at + 4, number, datatype);
@@ -75,7 +74,7 @@ pub fn store_layer(buf: &mut [u8], at: usize, number: LayerNo, datatype: DataTyp
 
 pub fn store_named(buf: &mut [u8], at: usize, number: LayerNo, datatype: DataType, name: &[u8])
     requires { (at + (10 + length name.now / 2 * 2) ≤ length buf.old) × (10 + length name.now / 2 * 2 ≤ max_size) }
-    ensures { buf.new ≡ put buf.old at (bytes_of (written (given_layer number datatype (some name.now)))) }
+    ensures { buf.new ≡ put buf.old at (bytes_of (written (given_layer number datatype (Some name.now)))) }
 {
     put_header(buf, at, Kind::Layer, 0, named_size(name));
     put_layer_numbers(buf, at + 4, number, datatype);
@@ -102,11 +101,11 @@ pub fn store_poly(buf: &mut [u8], at: usize, points: &[i32])
     put_longs(buf, at + 4, points);
 }
 
-pub fn store_wire(buf: &mut [u8], at: usize, style: EndStyle, width: i32, points: &[i32])
+pub fn store_wire(buf: &mut [u8], at: usize, style: Option<u8>, width: i32, points: &[i32])
     requires { (at + (8 + 4 * length points.now) ≤ length buf.old) × (8 + 4 * length points.now ≤ max_size) }
     ensures { buf.new ≡ put buf.old at (bytes_of (written (given_wire style width points.now))) }
 {
-    put_header(buf, at, Kind::Wire, style.flags(), wire_size(points));
+    put_header(buf, at, Kind::Wire, style_flags(style), wire_size(points));
     put_long(buf, at + 4, width);
     put_longs(buf, at + 8, points);
 }
@@ -161,30 +160,11 @@ fn put_header(buf: &mut [u8], at: usize, k: Kind, flags: u8, size: usize)
     requires { (at + 4 ≤ length buf.old) × (size ≤ max_size) }
     ensures { buf.new ≡ put buf.old at (size / 256 ∷ size % 256 ∷ type_for k ∷ flags_of k flags ∷ []) }
 {
-    let kind = type_byte(k);
     let meant = flags_meant(k, flags);
     let high = (size / 256) as u8;
     let low = (size % 256) as u8;
-    let header = [high, low, kind, meant];
+    let header = [high, low, k as u8, meant];
     put_each(buf, at, &header);
-}
-
-fn type_byte(k: Kind) -> u8
-    ensures { result ≡ type_for k }
-{
-    match k {
-        Kind::Library => 0,
-        Kind::Struct => 1,
-        Kind::Cprpty => 2,
-        Kind::Property => 3,
-        Kind::Layer => 4,
-        Kind::Box => 5,
-        Kind::Poly => 6,
-        Kind::Wire => 7,
-        Kind::Text => 8,
-        Kind::Sref => 9,
-        Kind::Endlib => 10,
-    }
 }
 
 // One box, as most BOX records have: without a loop, which would cost as much as all else of the call.
@@ -229,14 +209,14 @@ fn put_date(buf: &mut [u8], at: usize, date: Date)
 }
 
 // ---- fields that are there only where their flag is set
+// Flag and value, as the definition and the C interface have them: an `Option` would be made only to be taken apart.
 
 fn put_real_if(buf: &mut [u8], at: usize, set: bool, real: &[u8; 8])
     requires { set ≡ true → at + 8 ≤ length buf.old }
     ensures { buf.new ≡ put buf.old at (real_if set real.now) }
 {
     if set {
-        let equal = normal_bytes(real);
-        put_bytes(buf, at, &equal);
+        put_real(buf, at, *real);
     }
 }
 

@@ -12,13 +12,13 @@ use lib.Pow.{pow-add, pow_pos, pow_mono}
 use lib.Ieee.{Float, nan, inf, fin, binary64, odd, of_bits, of_fields, to_bits}
 use lib.Ieee.Bits.{of_bits-to_bits}
 use lib.Ieee.Exact.{odd_sign}
+use Rattle.std.specs.Prelude.{Option, Some, None}
 use Rattle.cgx_spec.specs.declared.Real.TheVariants.{Exact}
 use Rattle.cgx_spec.specs.Reals.{exponent, mantissa, value, answer, answer_value, normal, IsNormal, Means}
 use Rattle.cgx_spec.proofs.RealLaws.{pack-lt, exponent-pack, mantissa-pack}
 use Rattle.cgx_spec.proofs.DoubleLaws.{sixteens, exact-zero, double-zero, answer-exact, exact-means}
 use Rattle.cgx_spec.proofs.RealAnswers.{real-promises}
-use Rattle.doubles.specs.declared.FromDouble.{FromDouble}
-use Rattle.doubles.specs.Doubles.{field, significand, real, inexact, raised, lowered, real_from}
+use Rattle.doubles.specs.Doubles.{field, significand, real, raised, lowered, real_from}
 use Rattle.doubles.specs.Demand.{FromDoubleDemand}
 use Rattle.doubles.proofs.Made.{up_lt, down_lt, from_zero, from-none, from-ones, from_low, from-high}
 use Rattle.doubles.proofs.Equal.{whole, whole-lt, bits-value, bits_small, bits-ones, read-size, read_as}
@@ -28,20 +28,17 @@ record Good (b w : ℕ) : Type 0 where
   is : IsNormal w
   fits : w < 2 ^ 64
 
-abbrev None : ℕ → Type 0
-None b = (w : ℕ) → answer w ≡ Exact (of_bits binary64 b) → ⊥
+abbrev Unread : ℕ → Type 0
+Unread b = (w : ℕ) → answer w ≡ Exact (of_bits binary64 b) → ⊥
 
-abbrev Holds : ℕ → Bool → ℕ → Type 0
-Holds b true w = Good b w
-Holds b false w = (w ≡ 0) × None b
-
-abbrev Right : ℕ → FromDouble → Type 0
-Right b r = Holds b r.exact r.word
+abbrev Right : ℕ → Option ℕ → Type 0
+Right b (Some w) = Good b w
+Right b None = Unread b
 
 -- ---- a word with the double's sign
 
 -- where m is 2 ^ 52 at least or e is 0, and m * 16 ^ e has the double's size
-good : (b x e m : ℕ) → field b ≡ suc x → x < 2046 → e < 128 → m < 2 ^ 56 → 0 < m → (e ≡ 0) ⊎ (2 ^ 52 ≤ m) → m * 16 ^ e * 2 ^ 762 ≡ significand b * 2 ^ x → Right b (real b e m)
+good : (b x e m : ℕ) → field b ≡ suc x → x < 2046 → e < 128 → m < 2 ^ 56 → 0 < m → (e ≡ 0) ⊎ (2 ^ 52 ≤ m) → m * 16 ^ e * 2 ^ 762 ≡ significand b * 2 ^ x → Good b (real b e m)
 good b x e m f l h k p n q =
     record {
       reads = read_as b e m s h k (mul-pos p (rw (sixteens e) (pow_pos (4 * e)))) (rw q (bits-value b x f l));
@@ -76,7 +73,7 @@ raised-right : (b k : ℕ) → field b ≡ suc (k + 762) → k + 762 < 2046 → 
 unfolding raised
 raised-right b k f l = go (ltb (k / 4) 128) refl
   where
-    go : (t : Bool) → ltb (k / 4) 128 ≡ t → Right b (cond t (real b (k / 4) (significand b * 2 ^ (k % 4))) inexact)
+    go : (t : Bool) → ltb (k / 4) 128 ≡ t → Right b (cond t (Some (real b (k / 4) (significand b * 2 ^ (k % 4)))) None)
     go true q =
         let m : 2 ^ 52 ≤ significand b * 2 ^ (k % 4) = least (le-mul_of_pos_right (significand b) (pow_pos (k % 4))) in
         good b (k + 762) (k / 4) (significand b * 2 ^ (k % 4)) f l (ltb-true (k / 4) 128 q) (up_lt b k) (omega arith) (inr m)
@@ -84,12 +81,9 @@ raised-right b k f l = go (ltb (k / 4) 128) refl
       where
         least : {a : ℕ} → 2 ^ 52 + b % 2 ^ 52 ≤ a → 2 ^ 52 ≤ a
         least {a} h = omega arith
-    go false q = (
-      refl,
-      λ w a. too_large b k w (ltb-false (k / 4) 128 q)
-          (eq_of_mul-eq-mul_right (2 ^ 762) (pow_pos 762) (whole w) (significand b * 2 ^ k)
-          (read-size w (of_bits binary64 b) (leb (2 ^ 63) b) (significand b * 2 ^ (k + 762)) (bits-value b (k + 762) f l) a ∙ sym (shift (significand b) k 762))),
-    )
+    go false q = λ w a. too_large b k w (ltb-false (k / 4) 128 q)
+        (eq_of_mul-eq-mul_right (2 ^ 762) (pow_pos 762) (whole w) (significand b * 2 ^ k)
+        (read-size w (of_bits binary64 b) (leb (2 ^ 63) b) (significand b * 2 ^ (k + 762)) (bits-value b (k + 762) f l) a ∙ sym (shift (significand b) k 762)))
 
 -- ---- by 2 ^ k
 
@@ -115,7 +109,7 @@ module _ (b k x : ℕ) (f : field b ≡ suc x) (t : k + x ≡ 762) where
       m : ℕ
       m = significand b / 2 ^ k
 
-      go : (t : Bool) → eqb (significand b % 2 ^ k) 0 ≡ t → Right b (cond t (real b 0 m) inexact)
+      go : (t : Bool) → eqb (significand b % 2 ^ k) 0 ≡ t → Right b (cond t (Some (real b 0 m)) None)
       go true q =
           let n : m * 2 ^ k ≡ significand b = no-rest (eqb-true (significand b % 2 ^ k) 0 q) (mod-add-div' (significand b) (2 ^ k)) in
           good b x 0 m f below (lit< tt) (down_lt b k) (some m n (eq-zero-or-pos m)) (inl refl)
@@ -127,11 +121,11 @@ module _ (b k x : ℕ) (f : field b ≡ suc x) (t : k + x ≡ 762) where
           some : (m : ℕ) → m * 2 ^ k ≡ significand b → (m ≡ 0) ⊎ (0 < m) → 0 < m
           some m e (inl z) = absurd (let n : 0 ≡ significand b = sym (zero-mul (2 ^ k)) ∙ ap (λ (j : ℕ). j * 2 ^ k) (sym z) ∙ e in omega arith)
           some m e (inr p) = p
-      go false q = (refl, λ w a. eqb-false (significand b % 2 ^ k) 0 q (rest w a))
+      go false q = λ w a. eqb-false (significand b % 2 ^ k) 0 q (rest w a)
 
 -- ---- no exponent bits, or all of them
 
-zero_right : Right 0 (record { exact = true; word = 0 })
+zero_right : Good 0 0
 unfolding of_bits of_fields odd
 zero_right =
     record {
@@ -140,7 +134,7 @@ zero_right =
       fits = lit< tt;
     }
 
-small-none : (b : ℕ) → (b ≡ 0 → ⊥) → field b ≡ 0 → None b
+small-none : (b : ℕ) → (b ≡ 0 → ⊥) → field b ≡ 0 → Unread b
 small-none b n f w a = go (b % 2 ^ 52) refl
   where
     s : Bool
@@ -159,7 +153,7 @@ small-none b n f w a = go (b % 2 ^ 52) refl
         let q = bits_small b f ∙ ap (λ (t : ℕ). odd 53 s t 0 1074) e in
         little (whole w) d (2 ^ 762) (read-size w (odd 53 s (suc d) 0 1074) s (suc d * 1) (odd_sign 53 s (suc d) 0 1074) (a ∙ ap Exact q)) (omega arith) (lit≤ tt)
 
-ones_none : (b : ℕ) → field b ≡ 2047 → None b
+ones_none : (b : ℕ) → field b ≡ 2047 → Unread b
 ones_none b f w a = go (eqb (b % 2 ^ 52) 0) (subst (λ (x : Float). Means x (value w)) (bits-ones b f) (exact-means w (of_bits binary64 b) a))
   where
     go : (t : Bool) → Means (cond t (inf (leb (2 ^ 63) b)) nan) (value w) → ⊥
@@ -180,11 +174,11 @@ right b = zeros (eq-zero-or-pos b)
         subst (Right b) (from-high b n z o h) (raised-right b (field b - 763) (omega arith) (omega arith))
 
     ones : (b ≡ 0 → ⊥) → (field b ≡ 0 → ⊥) → (t : Bool) → eqb (field b) 2047 ≡ t → Right b (real_from b)
-    ones n z true q = let o = eqb-true (field b) 2047 q in subst (Right b) (from-ones b n z o) (refl, ones_none b o)
+    ones n z true q = let o = eqb-true (field b) 2047 q in subst (Right b) (from-ones b n z o) (ones_none b o)
     ones n z false q = sides n z (eqb-false (field b) 2047 q) (ltb (field b) 763) refl
 
     fields : (b ≡ 0 → ⊥) → (t : Bool) → eqb (field b) 0 ≡ t → Right b (real_from b)
-    fields n true q = let z = eqb-true (field b) 0 q in subst (Right b) (from-none b n z) (refl, small-none b n z)
+    fields n true q = let z = eqb-true (field b) 0 q in subst (Right b) (from-none b n z) (small-none b n z)
     fields n false q = ones n (eqb-false (field b) 0 q) (eqb (field b) 2047) refl
 
     zeros : (b ≡ 0) ⊎ (0 < b) → Right b (real_from b)
@@ -193,37 +187,41 @@ right b = zeros (eq-zero-or-pos b)
 
 -- ---- the statements
 
-yes : (b : ℕ) → (real_from b).exact ≡ true → Good b (real_from b).word
-yes b q = subst (λ (t : Bool). Holds b t (real_from b).word) q (right b)
+some : (b w : ℕ) → real_from b ≡ Some w → Good b w
+some b w q = subst (Right b) q (right b)
 
-no : (b : ℕ) → (real_from b).exact ≡ false → ((real_from b).word ≡ 0) × None b
-no b q = subst (λ (t : Bool). Holds b t (real_from b).word) q (right b)
+none : (b : ℕ) → real_from b ≡ None → Unread b
+none b q = subst (Right b) q (right b)
+
+empty : (b : ℕ) → Unread b → real_from b ≡ None
+empty b n = go (real_from b) refl
+  where
+    go : (r : Option ℕ) → real_from b ≡ r → real_from b ≡ None
+    go (Some w) q = absurd (n w (some b w q).reads)
+    go None q = q
 
 -- the double of an exact real gives back its normal real: it has the same value, and the normal real of a value is one
-back : (w : ℕ) (x : Float) → answer w ≡ Exact x → ((real_from (to_bits binary64 x)).exact ≡ true) × ((real_from (to_bits binary64 x)).word ≡ normal w)
-back w x a = go (real_from b).exact refl
+back : (w : ℕ) (x : Float) → answer w ≡ Exact x → real_from (to_bits binary64 x) ≡ Some (normal w)
+back w x a = go (real_from b) refl
   where
     b : ℕ
     b = to_bits binary64 x
 
-    v : ℕ
-    v = (real_from b).word
-
     same : Exact (of_bits binary64 b) ≡ answer w
     same = ap Exact (of_bits-to_bits binary64 x (real-promises.exact-means w x a).0) ∙ sym a
 
-    go : (t : Bool) → (real_from b).exact ≡ t → ((real_from b).exact ≡ true) × (v ≡ normal w)
-    go true q =
-        let g = yes b q in
-        (q, real-promises.normal-only w v g.fits g.is (sym (real-promises.answer-value v) ∙ ap answer_value (g.reads ∙ same) ∙ real-promises.answer-value w))
-    go false q = absurd ((no b q).1 w (sym same))
+    go : (r : Option ℕ) → real_from b ≡ r → real_from b ≡ Some (normal w)
+    go (Some v) q =
+        let g = some b v q in
+        q ∙ ap Some (real-promises.normal-only w v g.fits g.is (sym (real-promises.answer-value v) ∙ ap answer_value (g.reads ∙ same) ∙ real-promises.answer-value w))
+    go None q = absurd (none b q w (sym same))
 
 pub from-double-demand : FromDoubleDemand
 from-double-demand =
     record {
-      sound = λ b q. (yes b q).reads;
-      normal-is = λ b q. ((yes b q).is, (yes b q).fits);
-      complete = λ b q. (no b q).1;
-      empty = λ b q. (no b q).0;
+      sound = λ b w q. (some b w q).reads;
+      normal-is = λ b w q. ((some b w q).is, (some b w q).fits);
+      complete = none;
+      empty = empty;
       back = back;
     }

@@ -1,4 +1,4 @@
--- Laws that several proofs cite: `Parts`, a part of a list written out; `Signed`, the two steps of two's complement; `Same`, that eight bytes are the same where both halves are.
+-- Laws that several proofs cite: `Parts`, a part of a list written out; `Signed`, two's complement as std has it; `Same`, that eight bytes are the same where both halves are.
 -- `Demand`: what is proved of longs.
 pub mod Parts
 pub mod Signed

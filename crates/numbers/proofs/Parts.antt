@@ -2,10 +2,10 @@
 use mathlib.Core.Path.{◌≡◌, sym, ap, ◌∙◌, refl}
 use mathlib.Core.List.{List, [], ◌∷◌}
 use Prim.Native.Nat.{ℕ, zero, suc, ◌+◌, ◌≤◌}
-use native.Mathlib.Nat.{add-zero, le_of_eq}
+use native.Mathlib.Nat.{add-zero}
 use native.Mathlib.Omega.{arith}
 use lib.ListN.{length, take, drop, get_or}
-use lib.Seq.{drop-cons, take_all}
+use lib.Seq.{drop-cons}
 
 -- the n elements of s from at + i on
 abbrev pub cells : List ℕ → ℕ → ℕ → ℕ → List ℕ
@@ -27,7 +27,3 @@ part s at n h =
     (ap (λ (k : ℕ). take (suc n) (drop k s)) (sym (add-zero at))
     ∙ part-cells s at 0 (suc n) (omega arith)
     ∙ ap (λ (k : ℕ). get_or s k 0 ∷ cells s at 1 n) (add-zero at))
-
--- the whole list
-pub whole : (s : List ℕ) (n : ℕ) → length s ≡ suc n → get_or s 0 0 ∷ cells s 0 1 n ≡ s
-whole s n h = part s 0 n (omega arith) ∙ take_all (suc n) s (le_of_eq h)

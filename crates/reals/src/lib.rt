@@ -21,13 +21,12 @@ pub fn real_of(w: u64) -> Real
         return Real::Exact(0.0);
     }
     let e = w / 0x100_0000_0000_0000 % 128;
-    let t = u64::trailing_zeros(m);
+    let t = m.trailing_zeros();
     let q = m >> t;
     if 0x20_0000_0000_0000 <= q {
-        let exponent = e as u8;
         return Real::Inexact {
             negative: 0x8000_0000_0000_0000 <= w,
-            e: exponent,
+            e: e as u8,
             m,
         };
     }
@@ -42,14 +41,11 @@ pub fn real_of(w: u64) -> Real
 pub fn real_positive(w: u64) -> bool
     ensures { result ≡ positive w }
 {
-    if w < 0x8000_0000_0000_0000 {
-        0 < w % 0x100_0000_0000_0000
-    } else {
-        false
-    }
+    w < 0x8000_0000_0000_0000 && 0 < w % 0x100_0000_0000_0000
 }
 
-// The normal real equal to w: the mantissa goes up by four bits a step for as long as the exponent pays for it.
+// The normal real equal to w: the mantissa goes up by four bits a step for as long as the exponent pays for it. Step by step and not by
+// `leading_zeros`: a shift by so many bits calls a routine from outside on targets of 32 bits, which misses a goal of docs/TARGETS.md.
 pub fn normal_real(w: u64) -> u64
     ensures { result ≡ normal w }
 {

@@ -1,12 +1,9 @@
 -- The invariant: what is left of the points widens the rectangle so far to the whole.
 use mathlib.Core.Path.{◌≡◌}
-use Prim.Native.Nat.{◌-◌, ◌≤◌}
-use Rattle.cgx_ask_extent.specs.Extent.{widest}
-use Rattle.cgx_ask_extent.proofs.Hulls.{points_at}
+use lib.ListN.{drop}
+use Rattle.cgx_ask_extent.specs.Extent.{widest, pairs}
+use Rattle.cgx_spec.specs.Numbers.{longs_of}
 use Rattle.cgx_ask_extent.proofs.around.Given as goal
 
-abbrev pub invariant-loop-at : goal.invariant-loop-at
-invariant-loop-at l = (l.at ≤ 65538) × (widest l.initial.sides (points_at l.b l.initial.at) ≡ widest l.sides (points_at l.b l.at))
-
-abbrev pub decreases-loop-at : goal.decreases-loop-at
-decreases-loop-at l = 65546 - l.at
+abbrev pub invariant-loop-point : goal.invariant-loop-point
+invariant-loop-point l = (l.point-iterator.size ≡ 8) × (widest l.initial.sides (pairs (longs_of (drop l.from l.b))) ≡ widest l.sides (pairs (longs_of l.point-iterator.rest.now)))

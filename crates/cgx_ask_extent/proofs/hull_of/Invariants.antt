@@ -4,8 +4,8 @@ use lib.ListN.{length}
 use Rattle.cgx_ask_extent.proofs.Cells.{SpansAll}
 use Rattle.cgx_ask_extent.proofs.hull_of.Given as goal
 
-abbrev pub invariant-loop-hull : goal.invariant-loop-hull
-invariant-loop-hull l = SpansAll l.file l.from l.at l.hull
+abbrev pub invariant-loop-r : goal.invariant-loop-r
+invariant-loop-r l = SpansAll l.file l.from l.at l.hull
 
-abbrev pub decreases-loop-hull : goal.decreases-loop-hull
-decreases-loop-hull l = length l.file - l.at
+abbrev pub decreases-loop-r : goal.decreases-loop-r
+decreases-loop-r l = length l.file - l.at

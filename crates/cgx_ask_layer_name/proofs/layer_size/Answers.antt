@@ -1,5 +1,7 @@
 -- The tests of `good_layer` in its order; the rules 9, 10 and 12 have nothing to say of a LAYER.
+use mathlib.Core.Path.{ap}
 use native.Mathlib.Omega.{arith}
+use Rattle.cgx_spec.specs.Verdicts.{numbered}
 use Rattle.cgx_format_headers.proofs.Heads.{header-in}
 use Rattle.cgx_read_steps.proofs.Steps.{held-body}
 use Rattle.cgx_ask_layer_name.proofs.Layers.{low, odd, beyond, no_record, other-type, faulty, present-good}
@@ -15,28 +17,28 @@ pub returns-then-file-at : goal.returns-then-file-at
 returns-then-file-at c = beyond c.args.file.now c.args.at (omega arith) c.if-at-eq1.false c.if-file-at.true
 
 pub returns-then-not-is_layer : goal.returns-then-not-is_layer
-returns-then-not-is_layer c = other-type c.args.file.now c.args.at (omega arith) c.if-at-eq1.false c.header_at-found.result c.header_at-found.ensures c.in-Good.is c.is_layer.ensures c.if-not-is_layer.true
+returns-then-not-is_layer c = other-type c.args.file.now c.args.at (omega arith) c.if-at-eq1.false c.header_at.result c.header_at.ensures c.in-Ok.is c.is_layer.ensures c.if-not-is_layer.true
 
 pub overflow_add-to : goal.overflow_add-to
-overflow_add-to c = let h = (header-in c.args.file.now c.args.at c.header_at-found.ensures c.in-Good.is).held in let a = h.least in let i = h.inside in omega arith
+overflow_add-to c = let h = (header-in c.args.file.now c.args.at c.header_at.ensures c.in-Ok.is).held in let a = h.least in let i = h.inside in omega arith
 
 pub slice_bounds-body_fault-count : goal.slice_bounds-body_fault-count
-slice_bounds-body_fault-count c = let h = (header-in c.args.file.now c.args.at c.header_at-found.ensures c.in-Good.is).held in let a = h.least in let i = h.inside in omega arith
+slice_bounds-body_fault-count c = let h = (header-in c.args.file.now c.args.at c.header_at.ensures c.in-Ok.is).held in let a = h.least in let i = h.inside in omega arith
 
 pub slice_bounds-body_fault-start : goal.slice_bounds-body_fault-start
-slice_bounds-body_fault-start c = let h = (header-in c.args.file.now c.args.at c.header_at-found.ensures c.in-Good.is).held in let a = h.least in let i = h.inside in omega arith
+slice_bounds-body_fault-start c = let h = (header-in c.args.file.now c.args.at c.header_at.ensures c.in-Ok.is).held in let a = h.least in let i = h.inside in omega arith
 
 pub slice_bounds-body_fault-end : goal.slice_bounds-body_fault-end
-slice_bounds-body_fault-end c = let h = (header-in c.args.file.now c.args.at c.header_at-found.ensures c.in-Good.is).held in let a = h.least in let i = h.inside in omega arith
+slice_bounds-body_fault-end c = let h = (header-in c.args.file.now c.args.at c.header_at.ensures c.in-Ok.is).held in let a = h.least in let i = h.inside in omega arith
 
-pub body_fault-fault-requires : goal.body_fault-fault-requires
-body_fault-fault-requires c = held-body c.args.file.now c.args.at _ (header-in c.args.file.now c.args.at c.header_at-found.ensures c.in-Good.is).held
+pub body_fault-requires : goal.body_fault-requires
+body_fault-requires c = held-body c.args.file.now c.args.at _ (header-in c.args.file.now c.args.at c.header_at.ensures c.in-Ok.is).held
 
-pub returns-in-Bad : goal.returns-in-Bad
-returns-in-Bad c = no_record c.args.file.now c.args.at (omega arith) c.if-at-eq1.false c.header_at-found.result c.header_at-found.ensures c.in-Bad.is
+pub returns-in_default : goal.returns-in_default
+returns-in_default c = no_record c.args.file.now c.args.at (omega arith) c.if-at-eq1.false c.header_at.result c.header_at.ensures c.in_default.is
 
-pub returns-then-fault-eq0 : goal.returns-then-fault-eq0
-returns-then-fault-eq0 c = present-good c.args.file.now c.args.at (omega arith) c.if-at-eq1.false c.header_at-found.result c.header_at-found.ensures c.in-Good.is c.is_layer.ensures c.if-not-is_layer.false c.body_fault-fault.ensures c.if-fault-eq0.true
+pub returns-in-Ok-body_fault : goal.returns-in-Ok-body_fault
+returns-in-Ok-body_fault c = present-good c.args.file.now c.args.at (omega arith) c.if-at-eq1.false c.header_at.result c.header_at.ensures c.in-Ok.is c.is_layer.ensures c.if-not-is_layer.false c.body_fault.ensures (ap numbered c.in-Ok-body_fault.is)
 
-pub returns-else-fault-eq0 : goal.returns-else-fault-eq0
-returns-else-fault-eq0 c = faulty c.args.file.now c.args.at (omega arith) c.if-at-eq1.false c.header_at-found.result c.header_at-found.ensures c.in-Good.is c.is_layer.ensures c.if-not-is_layer.false c.body_fault-fault.ensures c.if-fault-eq0.false
+pub returns-in-Err : goal.returns-in-Err
+returns-in-Err c = faulty c.args.file.now c.args.at (omega arith) c.if-at-eq1.false c.header_at.result c.header_at.ensures c.in-Ok.is c.is_layer.ensures c.if-not-is_layer.false c.body_fault.ensures (ap numbered c.in-Err.is)

@@ -4,8 +4,8 @@ use lib.ListN.{length}
 use Rattle.cgx_ask_listing.proofs.Rests.{Begun}
 use Rattle.cgx_ask_listing.proofs.put_records.Given as goal
 
-abbrev pub invariant-loop-v : goal.invariant-loop-v
-invariant-loop-v l = Begun l.file l.p l.at l.initial.out l.out l.to
+abbrev pub invariant-loop-found : goal.invariant-loop-found
+invariant-loop-found l = Begun l.file l.p l.at l.initial.out l.out l.to
 
-abbrev pub decreases-loop-v : goal.decreases-loop-v
-decreases-loop-v l = length l.file - l.at
+abbrev pub decreases-loop-found : goal.decreases-loop-found
+decreases-loop-found l = length l.file - l.at

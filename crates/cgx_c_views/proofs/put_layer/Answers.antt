@@ -1,6 +1,7 @@
 -- By cases on the name.
 use mathlib.Core.Path.{refl, ap₂, ◌∙◌}
 use Prim.Native.Nat.{◌+◌, ◌^◌}
+use Rattle.std.proofs.Common.{rules}
 use mir.Syntax.{w16}
 use Rattle.numbers.proofs.Signed.{back}
 use Rattle.buffers.specs.Put.{put}
@@ -8,14 +9,14 @@ use Rattle.cgx_c_views.specs.ViewWords.{layer_word, layer_words, span_words}
 use Rattle.cgx_c_views.proofs.Stored.{one_more}
 use Rattle.cgx_c_views.proofs.put_layer.Goals as goal
 
-pub returns-in-Absent : goal.returns-in-Absent
+pub returns-in-None : goal.returns-in-None
 unfolding put layer_words
-returns-in-Absent c = let n = c.layer_word.ensures.value ∙ ap₂ layer_word (back w16 c.struct_told-1.given.0.1) (back w16 c.struct_told-2-1.given.0.1) in
-    rw c.in-Absent.is (rw n refl)
+returns-in-None c = let n = c.layer_word-word.ensures.value ∙ ap₂ layer_word (back w16 (search rules)) (back w16 (search rules)) in
+    rw c.in-None.is (rw n refl)
 
-pub returns-in-Present : goal.returns-in-Present
+pub returns-in-Some : goal.returns-in-Some
 unfolding layer_words
-returns-in-Present c = let a = c.args in
-    let s = c.in-Present.s in
-    let n = c.layer_word-in-Present.ensures.value ∙ ap₂ layer_word (back w16 c.struct_told-1.given.0.1) (back w16 c.struct_told-2-1.given.0.1) in
-    rw c.in-Present.is (one_more a.w.now (layer_word a.l.number.0 a.l.datatype.0 + 2 ^ 32) (span_words s) _ _ (rw n refl) c.put_span.ensures)
+returns-in-Some c = let a = c.args in
+    let s = c.in-Some.name in
+    let n = c.layer_word-word.ensures.value ∙ ap₂ layer_word (back w16 (search rules)) (back w16 (search rules)) in
+    rw c.in-Some.is (one_more a.w.now (layer_word a.l.number.0 a.l.datatype.0 + 2 ^ 32) (span_words s) _ _ (rw n refl) c.put_span.ensures)

@@ -9,4 +9,4 @@ use Rattle.cgx_format_fields.proofs.Boxes.{count-is}
 use Rattle.cgx_format_fields.proofs.count_good.Goals as goal
 
 pub returns : goal.returns
-returns c = ap (le_z (pos 1)) (back w32 c.long_at-n.type_inv ∙ c.long_at-n.ensures) ∙ sym (count-is c.args.b.now (omega arith))
+returns c = ap (le_z (pos 1)) (back w32 c.long_at.type_inv ∙ c.long_at.ensures) ∙ sym (count-is c.args.b.now (omega arith))

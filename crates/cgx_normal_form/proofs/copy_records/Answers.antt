@@ -14,34 +14,31 @@ use Rattle.cgx_normal_form.proofs.Rests.{long, four, written-first, written-form
 use Rattle.cgx_normal_form.proofs.copy_records.Goals as goal
 
 pub slice_bounds-put_bytes-end : goal.slice_bounds-put_bytes-end
-slice_bounds-put_bytes-end c = let z = long c.args.file.now (λ i. (c.shared_slice_known-1.given i).fits) c.requires.0 in omega arith
+slice_bounds-put_bytes-end c = let z = long c.args.file.now (λ i. (c.type_inv.file i).fits) c.requires.0 in omega arith
 
 pub put_bytes-requires : goal.put_bytes-requires
-put_bytes-requires c = let z = long c.args.file.now (λ i. (c.shared_slice_known-1.given i).fits) c.requires.0 in let y = form-long c.args.file.now z in let w = c.requires.1 in rw (four c.args.file.now (λ i. (c.shared_slice_known-1.given i).fits) c.requires.0) (omega arith)
+put_bytes-requires c = let z = long c.args.file.now (λ i. (c.type_inv.file i).fits) c.requires.0 in let y = form-long c.args.file.now z in let w = c.requires.1 in rw (four c.args.file.now (λ i. (c.type_inv.file i).fits) c.requires.0) (omega arith)
 
 pub loop-r-init : goal.loop-r-init
-loop-r-init c = let k = ap length c.put_bytes.ensures ∙ put-length c.args.out.now 0 (take 4 c.args.file.now) in (written-first c.args.file.now (λ i. (c.shared_slice_known-1.given i).fits) c.requires.0 _ (let w = c.requires.1 in omega arith), refl, omega arith)
+loop-r-init c = let k = ap length c.put_bytes.ensures ∙ put-length c.args.out.now 0 (take 4 c.args.file.now) in (written-first c.args.file.now (λ i. (c.type_inv.file i).fits) c.requires.0 _ (let w = c.requires.1 in omega arith), refl, omega arith)
 
-pub next_known-next-requires : goal.next_known-next-requires
-next_known-next-requires c = record { records = c.loop-r.invariant.0.rs; rest = c.loop-r.invariant.0.rest }
+pub next_known-requires : goal.next_known-requires
+next_known-requires c = record { records = c.loop-r.invariant.0.rs; rest = c.loop-r.invariant.0.rest }
 
-pub shape_of-out-in-End : goal.shape_of-out-in-End
-shape_of-out-in-End c = c.loop-r.invariant.1 ∙ ap length c.put_bytes.ensures ∙ put-length c.args.out.now 0 (take 4 c.args.file.now)
-
-pub returns-in-End : goal.returns-in-End
-returns-in-End c = written_all c.args.file.now c.loop-r.at _ c.loop-r.out c.loop-r.to c.loop-r.invariant.0 (found-end c.args.file.now c.loop-r.at c.next_known-next.ensures c.in-End.is c.loop-r.invariant.0.rs c.loop-r.invariant.0.rest).sequence ∙ ap (λ (x : List ℕ). put x 4 (normal_run (records_of c.args.file.now))) c.put_bytes.ensures ∙ written-form c.args.file.now (λ i. (c.shared_slice_known-1.given i).fits) c.requires.0 c.args.out.now
+pub returns : goal.returns
+returns c = written_all c.args.file.now c.loop-r.at _ c.loop-r.out c.loop-r.to c.loop-r.invariant.0 (found-end c.args.file.now c.loop-r.at c.next_known.ensures c.in_default.is c.loop-r.invariant.0.rs c.loop-r.invariant.0.rest).sequence ∙ ap (λ (x : List ℕ). put x 4 (normal_run (records_of c.args.file.now))) c.put_bytes.ensures ∙ written-form c.args.file.now (λ i. (c.type_inv.file i).fits) c.requires.0 c.args.out.now
 
 pub copy_record-requires : goal.copy_record-requires
-copy_record-requires c = copyable c.args.file.now (λ i. (c.shared_slice_known-1.given i).fits) c.loop-r.at _ c.loop-r.out c.loop-r.to c.loop-r.invariant.0 c.in-Found.r (found_first c.args.file.now c.loop-r.at c.next_known-next.ensures c.in-Found.is c.loop-r.invariant.0.rs c.loop-r.invariant.0.rest)
+copy_record-requires c = copyable c.args.file.now (λ i. (c.type_inv.file i).fits) c.loop-r.at _ c.loop-r.out c.loop-r.to c.loop-r.invariant.0 c.in-Some.r (found_first c.args.file.now c.loop-r.at c.next_known.ensures c.in-Some.is c.loop-r.invariant.0.rs c.loop-r.invariant.0.rest)
 
 pub overflow_add-to : goal.overflow_add-to
-overflow_add-to c = let n = (found_first c.args.file.now c.loop-r.at c.next_known-next.ensures c.in-Found.is c.loop-r.invariant.0.rs c.loop-r.invariant.0.rest) in let h = n.held in let a = h.least in let i = h.inside in let l = n.later in omega arith
+overflow_add-to c = let n = (found_first c.args.file.now c.loop-r.at c.next_known.ensures c.in-Some.is c.loop-r.invariant.0.rs c.loop-r.invariant.0.rest) in let h = n.held in let a = h.least in let i = h.inside in let l = n.later in omega arith
 
 pub overflow_add-at : goal.overflow_add-at
-overflow_add-at c = let n = (found_first c.args.file.now c.loop-r.at c.next_known-next.ensures c.in-Found.is c.loop-r.invariant.0.rs c.loop-r.invariant.0.rest) in let h = n.held in let a = h.least in let i = h.inside in let l = n.later in omega arith
+overflow_add-at c = let n = (found_first c.args.file.now c.loop-r.at c.next_known.ensures c.in-Some.is c.loop-r.invariant.0.rs c.loop-r.invariant.0.rest) in let h = n.held in let a = h.least in let i = h.inside in let l = n.later in omega arith
 
 pub loop-r-smaller : goal.loop-r-smaller
-loop-r-smaller c = let n = (found_first c.args.file.now c.loop-r.at c.next_known-next.ensures c.in-Found.is c.loop-r.invariant.0.rs c.loop-r.invariant.0.rest) in let h = n.held in let a = h.least in let i = h.inside in let l = n.later in omega arith
+loop-r-smaller c = let n = (found_first c.args.file.now c.loop-r.at c.next_known.ensures c.in-Some.is c.loop-r.invariant.0.rs c.loop-r.invariant.0.rest) in let h = n.held in let a = h.least in let i = h.inside in let l = n.later in omega arith
 
 pub loop-r-preserved : goal.loop-r-preserved
-loop-r-preserved c = let n = (found_first c.args.file.now c.loop-r.at c.next_known-next.ensures c.in-Found.is c.loop-r.invariant.0.rs c.loop-r.invariant.0.rest) in let l = n.later in (written_on c.args.file.now (λ i. (c.shared_slice_known-1.given i).fits) c.loop-r.at _ c.loop-r.out c.loop-r.to c.loop-r.invariant.0 c.in-Found.r (found_first c.args.file.now c.loop-r.at c.next_known-next.ensures c.in-Found.is c.loop-r.invariant.0.rs c.loop-r.invariant.0.rest) _ c.copy_record.ensures, ap length c.copy_record.ensures ∙ put-length c.loop-r.out c.loop-r.to _ ∙ c.loop-r.invariant.1, omega arith)
+loop-r-preserved c = let n = (found_first c.args.file.now c.loop-r.at c.next_known.ensures c.in-Some.is c.loop-r.invariant.0.rs c.loop-r.invariant.0.rest) in let l = n.later in (written_on c.args.file.now (λ i. (c.type_inv.file i).fits) c.loop-r.at _ c.loop-r.out c.loop-r.to c.loop-r.invariant.0 c.in-Some.r (found_first c.args.file.now c.loop-r.at c.next_known.ensures c.in-Some.is c.loop-r.invariant.0.rs c.loop-r.invariant.0.rest) _ c.copy_record.ensures, ap length c.copy_record.ensures ∙ put-length c.loop-r.out c.loop-r.to _ ∙ c.loop-r.invariant.1, omega arith)

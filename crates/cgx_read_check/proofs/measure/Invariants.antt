@@ -6,8 +6,8 @@ use Rattle.cgx_read_check.specs.Measure.{measure_of}
 use Rattle.cgx_read_check.proofs.Turns.{ask}
 use Rattle.cgx_read_check.proofs.measure.Given as goal
 
-abbrev pub invariant-loop-v : goal.invariant-loop-v
-invariant-loop-v l = Asked ask (measure_of l.file) l.file l.p l.at l.length × (l.length ≤ l.at)
+abbrev pub invariant-loop-found : goal.invariant-loop-found
+invariant-loop-found l = Asked ask (measure_of l.file) l.file l.p l.at l.length × (l.length ≤ l.at)
 
-abbrev pub decreases-loop-v : goal.decreases-loop-v
-decreases-loop-v l = length l.file - l.at
+abbrev pub decreases-loop-found : goal.decreases-loop-found
+decreases-loop-found l = length l.file - l.at

@@ -34,34 +34,34 @@ pub sref_of-requires : goal.sref_of-requires
 sref_of-requires c = sref-ready (told c.in-Sref.is c.requires)
 
 pub returns-in-Library : goal.returns-in-Library
-returns-in-Library c = let both = read_as c.requires c.in-Library.is (c.library_of.ensures c.args.fl) in record { result_value = both.0; kind = both.1.0; located = both.1.1 }
+returns-in-Library c = read_as c.requires c.in-Library.is (c.library_of.ensures c.args.fl)
 
 pub returns-in-Struct : goal.returns-in-Struct
-returns-in-Struct c = let both = read_as c.requires c.in-Struct.is (c.struct_of.ensures c.args.fl) in record { result_value = both.0; kind = both.1.0; located = both.1.1 }
+returns-in-Struct c = read_as c.requires c.in-Struct.is (c.struct_of.ensures c.args.fl)
 
 pub returns-in-Cprpty : goal.returns-in-Cprpty
-returns-in-Cprpty c = let both = read_as c.requires c.in-Cprpty.is (c.cprpty_of.ensures c.args.fl) in record { result_value = both.0; kind = both.1.0; located = both.1.1 }
+returns-in-Cprpty c = read_as c.requires c.in-Cprpty.is (c.cprpty_of.ensures c.args.fl)
 
 pub returns-in-Property : goal.returns-in-Property
-returns-in-Property c = let both = read_as c.requires c.in-Property.is (c.property_of.ensures c.args.fl) in record { result_value = both.0; kind = both.1.0; located = both.1.1 }
+returns-in-Property c = read_as c.requires c.in-Property.is (c.property_of.ensures c.args.fl)
 
 pub returns-in-Layer : goal.returns-in-Layer
-returns-in-Layer c = let both = read_as c.requires c.in-Layer.is (c.layer_of.ensures c.args.fl) in record { result_value = both.0; kind = both.1.0; located = both.1.1 }
+returns-in-Layer c = read_as c.requires c.in-Layer.is (c.layer_of.ensures c.args.fl)
 
 pub returns-in-Box : goal.returns-in-Box
-returns-in-Box c = let both = read_as c.requires c.in-Box.is (c.box_of.ensures c.args.fl) in record { result_value = both.0; kind = both.1.0; located = both.1.1 }
+returns-in-Box c = read_as c.requires c.in-Box.is (c.box_of.ensures c.args.fl)
 
 pub returns-in-Poly : goal.returns-in-Poly
-returns-in-Poly c = let both = read_as c.requires c.in-Poly.is (c.poly_of.ensures c.args.fl) in record { result_value = both.0; kind = both.1.0; located = both.1.1 }
+returns-in-Poly c = read_as c.requires c.in-Poly.is (c.poly_of.ensures c.args.fl)
 
 pub returns-in-Wire : goal.returns-in-Wire
-returns-in-Wire c = let both = read_as c.requires c.in-Wire.is (c.wire_of.ensures c.args.fl) in record { result_value = both.0; kind = both.1.0; located = both.1.1 }
+returns-in-Wire c = read_as c.requires c.in-Wire.is (c.wire_of.ensures c.args.fl)
 
 pub returns-in-Text : goal.returns-in-Text
-returns-in-Text c = let both = read_as c.requires c.in-Text.is (c.text_of.ensures c.args.fl) in record { result_value = both.0; kind = both.1.0; located = both.1.1 }
+returns-in-Text c = read_as c.requires c.in-Text.is (c.text_of.ensures c.args.fl)
 
 pub returns-in-Sref : goal.returns-in-Sref
-returns-in-Sref c = let both = read_as c.requires c.in-Sref.is c.sref_of.ensures in record { result_value = both.0; kind = both.1.0; located = both.1.1 }
+returns-in-Sref c = read_as c.requires c.in-Sref.is c.sref_of.ensures
 
 pub returns-in-Endlib : goal.returns-in-Endlib
-returns-in-Endlib c = let s = c in let both = read_as s.requires c.in-Endlib.is (endlib-read s.args.fl s.args.f.now s.args.at s.args.size) in record { result_value = both.0; kind = both.1.0; located = both.1.1 }
+returns-in-Endlib c = read_as c.requires c.in-Endlib.is (endlib-read c.args.fl c.args.f.now c.args.at c.args.size)

@@ -10,9 +10,6 @@ use Rattle.cgx_format_kinds.specs.Meant.{one}
 use Rattle.cgx_read_fields.proofs.Parts.{◌then◌, name_in_lem}
 use Rattle.cgx_read_fields.proofs.layer_of.Goals as goal
 
-pub name_at-name-requires : goal.name_at-name-requires
-name_at-name-requires c = c.requires.1
-
 pub returns : goal.returns
 unfolding FieldsAt field_values fields_kind values_at layout pieces_at width values value
 returns c fl = let s = c in

@@ -7,9 +7,6 @@ pub returns-then-len-eq0 : goal.returns-then-len-eq0
 unfolding name_text
 returns-then-len-eq0 c = let s = c.args in (no_name s.f.now s.at s.len c.if-len-eq0.true, tt)
 
-pub text_at-requires : goal.text_at-requires
-text_at-requires c = c.requires.named c.if-len-eq0.false
-
-pub returns : goal.returns
+pub returns-else-len-eq0 : goal.returns-else-len-eq0
 unfolding name_text
-returns c = let s = c in (a_name s.args.f.now s.args.at s.args.len (s.requires.named c.if-len-eq0.false) c.text_at.ensures.0, c.text_at.ensures.1)
+returns-else-len-eq0 c = let s = c in (a_name s.args.f.now s.args.at s.args.len (s.requires.named c.if-len-eq0.false) c.text_at.ensures.0, c.text_at.ensures.1)

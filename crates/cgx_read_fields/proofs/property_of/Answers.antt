@@ -11,9 +11,6 @@ use Rattle.numbers.proofs.Signed.{back}
 use Rattle.cgx_read_fields.proofs.Parts.{◌then◌, long-value}
 use Rattle.cgx_read_fields.proofs.property_of.Goals as goal
 
-pub text_at-value-requires : goal.text_at-value-requires
-text_at-value-requires c = c.requires
-
 pub returns : goal.returns
 unfolding FieldsAt field_values fields_kind values_at layout pieces_at width values value
 returns c fl = let s = c in

@@ -6,14 +6,11 @@ use Rattle.cgx_read_fields.specs.Views.{real_if}
 use Rattle.cgx_read_fields.proofs.Parts.{real-value}
 use Rattle.cgx_read_fields.proofs.real_if.Goals as goal
 
-pub real_at-requires : goal.real_at-requires
-real_at-requires c = c.requires c.if-there.true
-
 pub returns-then-there : goal.returns-then-there
 unfolding optional_value real_if
 returns-then-there c = let s = c.args in
     (rw c.if-there.true (real-value (take 8 (drop s.at s.f.now)) c.real_at.ensures), c.real_at.ensures)
 
-pub returns : goal.returns
+pub returns-else-there : goal.returns-else-there
 unfolding optional_value real_if
-returns c = (rw c.if-there.false refl, tt)
+returns-else-there c = (rw c.if-there.false refl, tt)

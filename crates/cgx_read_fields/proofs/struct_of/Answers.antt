@@ -8,9 +8,6 @@ use Rattle.cgx_read_fields.specs.Views.{FieldsAt, pieces_at, values_at}
 use Rattle.cgx_read_fields.proofs.Parts.{◌then◌}
 use Rattle.cgx_read_fields.proofs.struct_of.Goals as goal
 
-pub text_at-name-requires : goal.text_at-name-requires
-text_at-name-requires c = c.requires
-
 pub returns : goal.returns
 unfolding FieldsAt field_values fields_kind values_at layout pieces_at width values value
 returns c fl = record {

@@ -5,9 +5,6 @@ use Rattle.numbers.proofs.Signed.{back}
 use Rattle.cgx_read_fields.proofs.Labels.{text-by}
 use Rattle.cgx_read_fields.proofs.text_of.Goals as goal
 
-pub text_at-label-requires : goal.text_at-label-requires
-text_at-label-requires c = c.requires
-
 pub returns : goal.returns
 returns c = let s = c in
     text-by s.args.f.now s.args.at s.args.size s.requires _ _ _ c.point_at-anchor.ensures (back w32 c.long_at-width.type_inv ∙ c.long_at-width.ensures) c.text_at-label.ensures

@@ -1,29 +1,12 @@
 -- `cgx_read_lists::point_at` is right: where the index passes, its bytes lie inside the file, and its longs are read one after another. Assumes nothing.
 use mathlib.Core.Path.{sym, ◌∙◌}
-use native.Mathlib.Omega.{arith}
-use lib.ListN.{length}
 use mir.Syntax.{w32}
 use Rattle.numbers.proofs.Signed.{back}
-use Rattle.cgx_read_lists.proofs.ItemsInside.{inside-then, point-none, point-some}
+use Rattle.cgx_read_lists.proofs.ItemsInside.{point-none, point-some}
 use Rattle.cgx_read_lists.proofs.point_at.Goals as goal
 
-pub returns-then-not-item_inside : goal.returns-then-not-item_inside
-returns-then-not-item_inside c = let s = c.args in point-none s.f.now s.points s.i (sym c.item_inside.ensures ∙ c.if-not-item_inside.true)
-
-pub overflow_mul-at : goal.overflow_mul-at
-overflow_mul-at c = let h = inside-then (length c.args.f.now) 8 c.args.points c.args.i (sym c.item_inside.ensures ∙ c.if-not-item_inside.false) in omega arith
-
-pub overflow_add-at : goal.overflow_add-at
-overflow_add-at c = let h = inside-then (length c.args.f.now) 8 c.args.points c.args.i (sym c.item_inside.ensures ∙ c.if-not-item_inside.false) in omega arith
-
-pub long_at-x-requires : goal.long_at-x-requires
-long_at-x-requires c = let h = inside-then (length c.args.f.now) 8 c.args.points c.args.i (sym c.item_inside.ensures ∙ c.if-not-item_inside.false) in omega arith
-
-pub overflow_add-at-2 : goal.overflow_add-at-2
-overflow_add-at-2 c = let h = inside-then (length c.args.f.now) 8 c.args.points c.args.i (sym c.item_inside.ensures ∙ c.if-not-item_inside.false) in omega arith
-
-pub long_at-y-requires : goal.long_at-y-requires
-long_at-y-requires c = let h = inside-then (length c.args.f.now) 8 c.args.points c.args.i (sym c.item_inside.ensures ∙ c.if-not-item_inside.false) in omega arith
+pub returns-in_err-at : goal.returns-in_err-at
+returns-in_err-at c = let s = c.args in rw c.from_residual.ensures (point-none s.f.now s.points s.i (sym c.item_at.ensures.value ∙ c.in_err-at.was))
 
 pub returns : goal.returns
-returns c = let s = c.args in point-some s.f.now s.points s.i (sym c.item_inside.ensures ∙ c.if-not-item_inside.false) (back w32 c.long_at-x.type_inv ∙ c.long_at-x.ensures) (back w32 c.long_at-y.type_inv ∙ c.long_at-y.ensures)
+returns c = let s = c.args in point-some s.f.now s.points s.i (sym c.item_at.ensures.value ∙ c.in_ok-at.was) (back w32 c.long_at.type_inv ∙ c.long_at.ensures) (back w32 c.long_at-2.type_inv ∙ c.long_at-2.ensures)

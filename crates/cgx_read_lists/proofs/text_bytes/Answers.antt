@@ -4,20 +4,20 @@ use native.Mathlib.Omega.{arith}
 use Rattle.cgx_read_lists.proofs.ItemsInside.{text_in, no_text, a_text}
 use Rattle.cgx_read_lists.proofs.text_bytes.Goals as goal
 
-pub returns-then-not-text_inside : goal.returns-then-not-text_inside
-returns-then-not-text_inside c = let k = c in let both = no_text k.args.f.now k.args.s k.args.f.ref_ptr (sym k.text_inside.ensures ∙ c.if-not-text_inside.true) in record { result_value = both.0; place = both.1 }
+pub returns-else-text_inside : goal.returns-else-text_inside
+returns-else-text_inside c = let k = c in let both = no_text k.args.f.now k.args.s k.args.f.ref_ptr (sym k.text_inside.ensures ∙ c.if-text_inside.false) in record { result_value = both.0; place = both.1 }
 
-pub overflow_add-end : goal.overflow_add-end
-overflow_add-end c = let k = c in
+pub overflow_add-result : goal.overflow_add-result
+overflow_add-result c = let k = c in
     let s = k.args in
-    let h = text_in s.f.now s.s (sym k.text_inside.ensures ∙ c.if-not-text_inside.false) in
+    let h = text_in s.f.now s.s (sym k.text_inside.ensures ∙ c.if-text_inside.true) in
     omega arith
 
-pub slice_bounds-result-end-2 : goal.slice_bounds-result-end-2
-slice_bounds-result-end-2 c = let k = c in
+pub slice_bounds-result-end : goal.slice_bounds-result-end
+slice_bounds-result-end c = let k = c in
     let s = k.args in
-    let h = text_in s.f.now s.s (sym k.text_inside.ensures ∙ c.if-not-text_inside.false) in
+    let h = text_in s.f.now s.s (sym k.text_inside.ensures ∙ c.if-text_inside.true) in
     omega arith
 
-pub returns : goal.returns
-returns c = let k = c in let both = a_text k.args.f.now k.args.s k.args.f.ref_ptr (sym k.text_inside.ensures ∙ c.if-not-text_inside.false) in record { result_value = both.0; place = both.1 }
+pub returns-then-text_inside : goal.returns-then-text_inside
+returns-then-text_inside c = let k = c in let both = a_text k.args.f.now k.args.s k.args.f.ref_ptr (sym k.text_inside.ensures ∙ c.if-text_inside.true) in record { result_value = both.0; place = both.1 }

@@ -1,13 +1,10 @@
 -- 0 is none.
-use mathlib.Core.Path.{refl, sym}
-use native.Mathlib.Omega.{arith}
+use mathlib.Core.Path.{◌∙◌}
+use lib.Dec.{eqb}
 use Rattle.cgx_format_cursor.specs.Cursors.{run_in}
-use Rattle.cgx_format_cursor.proofs.Laws.{run_in_lem}
+use Rattle.cgx_read_views.proofs.Views.{unless}
 use Rattle.cgx_read_views.proofs.run_of.Goals as goal
 
-pub returns-then-count-eq0 : goal.returns-then-count-eq0
-unfolding run_in
-returns-then-count-eq0 c = rw c.if-count-eq0.true refl
-
 pub returns : goal.returns
-returns c = sym (run_in_lem _ _ (omega (arith, c.if-count-eq0.false)))
+unfolding run_in
+returns c = c.then_some.ensures ∙ unless (eqb c.args.count 0) (record { first = c.args.first; count = c.args.count })

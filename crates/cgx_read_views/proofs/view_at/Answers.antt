@@ -11,9 +11,9 @@ pub returns : goal.returns
 returns c = let s = c in
     let a = s.args in
     let f = c.fields_of-fields in
-    let run = c.run_of-run.ensures ∙ ap (run_in a.s.first) c.taken-count.ensures in
+    let run = c.run_of-run.ensures ∙ ap (run_in a.s.first) c.taken.ensures in
     record {
-      means = view-is a.m.now a.from a.s a.after a.at a.n a.k a.flags s.requires.0 s.requires.1 f.result _ _ _ f.ensures.result_value c.offset_of-cell.ensures c.offset_of-layer.ensures run;
+      means = view-is a.m.now a.from a.s a.after a.r.at a.r.size a.r.kind a.r.flags s.requires.0 s.requires.1 f.result _ _ _ f.ensures.result_value c.offset_of-cell.ensures c.offset_of-layer.ensures run;
       kind-is = f.ensures.kind;
       offset-is = refl;
       located = f.ensures.located;

@@ -7,8 +7,8 @@ use Rattle.cgx_format_cursor.specs.Cursors.{context_in, place_in}
 use Rattle.cgx_read_walk.specs.Walk.{answer_from}
 use Rattle.cgx_read_walk.proofs.seek.Given as goal
 
-abbrev pub invariant-loop-number : goal.invariant-loop-number
-invariant-loop-number l = (l.at ≤ length l.file) × (0 < l.at) × (l.s.count ≤ l.at) × (step_of l.file (place_in (record { at = l.initial.at; state = l.s })) ≡ answer_from l.file (context_in l.s) l.at)
+abbrev pub invariant-loop-h : goal.invariant-loop-h
+invariant-loop-h l = (l.at ≤ length l.file) × (0 < l.at) × (l.s.count ≤ l.at) × (step_of l.file (place_in (record { at = l.initial.at; state = l.s })) ≡ answer_from l.file (context_in l.s) l.at)
 
-abbrev pub decreases-loop-number : goal.decreases-loop-number
-decreases-loop-number l = length l.file - l.at
+abbrev pub decreases-loop-h : goal.decreases-loop-h
+decreases-loop-h l = length l.file - l.at

@@ -1,14 +1,13 @@
 -- By the number of the opening.
-use mathlib.Core.Path.{sym, ap, ◌∙◌}
-use Rattle.cgx_read_walk.specs.declared.Started.TheVariants.{Ready}
-use Rattle.cgx_read_walk.specs.Walk.{started, start_of}
-use Rattle.cgx_read_walk.proofs.Answers.{not-begun}
+use mathlib.Core.Path.{sym, ◌∙◌}
+use Rattle.std.proofs.lemmas.Result.{err_from_is_err_and}
+use Rattle.cgx_format_headers.proofs.Openings.{opening-good}
+use Rattle.cgx_read_walk.proofs.Answers.{start-refused, start-good}
 use Rattle.cgx_read_walk.proofs.start.Goals as goal
 
-pub returns-then-number-eq0 : goal.returns-then-number-eq0
-unfolding start_of
-returns-then-number-eq0 c = ap Ready c.start.ensures ∙ sym (ap started (sym c.opening_fault-number.ensures ∙ c.if-number-eq0.true))
+pub returns-in_err-check_opening : goal.returns-in_err-check_opening
+returns-in_err-check_opening c = let p = err_from_is_err_and c.from_residual.result c.from_residual.ensures.1 in
+    rw (p.1, p.2) (start-refused c.args.file.now (sym c.in_err-check_opening.was ∙ c.check_opening.ensures))
 
 pub returns : goal.returns
-unfolding start_of
-returns c = not-begun c.opening_fault-number.result c.if-number-eq0.false ∙ ap started c.opening_fault-number.ensures
+returns c = start-good c.args.file.now (opening-good c.args.file.now (sym c.in_ok-check_opening.was ∙ c.check_opening.ensures)) c.start.ensures

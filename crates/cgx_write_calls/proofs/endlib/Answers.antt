@@ -1,4 +1,6 @@
 -- The answer is the plan's; where it is taken, the store is that of the record.
+use Rattle.std.proofs.lemmas.Result.{err_from_is_err_and}
+use mathlib.Core.Path.{sym, ◌∙◌}
 use Rattle.cgx_write_given.proofs.Sizes.{endlib-size}
 use native.Mathlib.Omega.{arith}
 use lib.ListN.{length}
@@ -8,22 +10,20 @@ use Rattle.cgx_write_given.proofs.Calling.{calls-promises}
 use Rattle.cgx_write_plans.proofs.Order.{call_fits}
 use Rattle.cgx_write_calls.proofs.endlib.Goals as goal
 
-pub returns-then-answer-ne0 : goal.returns-then-answer-ne0
-returns-then-answer-ne0 c = let s = c in
-    let a = s.args in
-    let p = c.plan_endlib-answer in
-    record { buf_after = call-refused a.buf.now a.writer given_endlib p.result p.ensures c.if-answer-ne0.true; typed = calls-promises.endlib }
+pub returns-in_err-after : goal.returns-in_err-after
+returns-in_err-after c = let a = c.args in
+    let p = c.plan_endlib in
+    let e = err_from_is_err_and c.from_residual.result c.from_residual.ensures.1 in
+    record { buf_after = rw (e.1, e.2) (call-refused a.buf.now a.writer given_endlib _ (sym p.ensures ∙ c.in_err-after.was)); typed = calls-promises.endlib }
 
 pub store_endlib-requires : goal.store_endlib-requires
-store_endlib-requires c = let s = c in
-    let a = s.args in
-    let p = c.plan_endlib-answer in
-    let h = call_fits (length a.buf.now) a.writer given_endlib p.result (4) p.ensures c.if-answer-ne0.false (endlib-size) in
+store_endlib-requires c = let a = c.args in
+    let p = c.plan_endlib in
+    let h = call_fits (length a.buf.now) a.writer given_endlib _ (4) (sym p.ensures ∙ c.in_ok-after.was) (endlib-size) in
     omega (arith, h.small, h.room)
 
 pub returns : goal.returns
-returns c = let s = c in
-    let a = s.args in
-    let p = c.plan_endlib-answer in
+returns c = let a = c.args in
+    let p = c.plan_endlib in
     let o = c.store_endlib in
-    record { buf_after = call-taken a.buf.now a.writer given_endlib p.result p.ensures o.new.buf c.if-answer-ne0.false o.ensures; typed = calls-promises.endlib }
+    record { buf_after = call-taken a.buf.now a.writer given_endlib _ o.new.buf (sym p.ensures ∙ c.in_ok-after.was) o.ensures; typed = calls-promises.endlib }

@@ -1,5 +1,7 @@
 -- The answer is the plan's; where it is taken, the store is that of the record.
-use mathlib.Core.Option.{none}
+use Rattle.std.proofs.lemmas.Result.{err_from_is_err_and}
+use mathlib.Core.Path.{sym, ◌∙◌}
+use Rattle.std.specs.Prelude.{None}
 use Rattle.cgx_write_given.proofs.Sizes.{layer-size}
 use Rattle.cgx_write_given.proofs.Ranges.{number_in, type-in}
 use native.Mathlib.Omega.{arith}
@@ -10,22 +12,20 @@ use Rattle.cgx_write_given.proofs.Calling.{calls-promises}
 use Rattle.cgx_write_plans.proofs.Order.{call_fits}
 use Rattle.cgx_write_calls.proofs.layer.Goals as goal
 
-pub returns-then-answer-ne0 : goal.returns-then-answer-ne0
-returns-then-answer-ne0 c = let s = c in
-    let a = s.args in
-    let p = c.plan_layer-answer in
-    record { buf_after = call-refused a.buf.now a.writer (given_layer a.number a.datatype none) p.result p.ensures c.if-answer-ne0.true; typed = calls-promises.layer a.number a.datatype (number_in a.number s.well_formed.1.1.0) (type-in a.datatype s.well_formed.1.1.1.0) }
+pub returns-in_err-after : goal.returns-in_err-after
+returns-in_err-after c = let a = c.args in
+    let p = c.plan_layer in
+    let e = err_from_is_err_and c.from_residual.result c.from_residual.ensures.1 in
+    record { buf_after = rw (e.1, e.2) (call-refused a.buf.now a.writer (given_layer a.number a.datatype None) _ (sym p.ensures ∙ c.in_err-after.was)); typed = calls-promises.layer a.number a.datatype (number_in a.number c.well_formed.1.1.0) (type-in a.datatype c.well_formed.1.1.1.0) }
 
 pub store_layer-requires : goal.store_layer-requires
-store_layer-requires c = let s = c in
-    let a = s.args in
-    let p = c.plan_layer-answer in
-    let h = call_fits (length a.buf.now) a.writer (given_layer a.number a.datatype none) p.result (8) p.ensures c.if-answer-ne0.false (layer-size a.number a.datatype) in
+store_layer-requires c = let a = c.args in
+    let p = c.plan_layer in
+    let h = call_fits (length a.buf.now) a.writer (given_layer a.number a.datatype None) _ (8) (sym p.ensures ∙ c.in_ok-after.was) (layer-size a.number a.datatype) in
     omega (arith, h.small, h.room)
 
 pub returns : goal.returns
-returns c = let s = c in
-    let a = s.args in
-    let p = c.plan_layer-answer in
+returns c = let a = c.args in
+    let p = c.plan_layer in
     let o = c.store_layer in
-    record { buf_after = call-taken a.buf.now a.writer (given_layer a.number a.datatype none) p.result p.ensures o.new.buf c.if-answer-ne0.false o.ensures; typed = calls-promises.layer a.number a.datatype (number_in a.number s.well_formed.1.1.0) (type-in a.datatype s.well_formed.1.1.1.0) }
+    record { buf_after = call-taken a.buf.now a.writer (given_layer a.number a.datatype None) _ o.new.buf (sym p.ensures ∙ c.in_ok-after.was) o.ensures; typed = calls-promises.layer a.number a.datatype (number_in a.number c.well_formed.1.1.0) (type-in a.datatype c.well_formed.1.1.1.0) }

@@ -1,5 +1,7 @@
 -- The answer is the plan's; where it is taken, the store is that of the record.
-use mathlib.Core.Option.{some}
+use Rattle.std.proofs.lemmas.Result.{err_from_is_err_and}
+use mathlib.Core.Path.{sym, ◌∙◌}
+use Rattle.std.specs.Prelude.{Some}
 use Prim.Native.Nat.{◌+◌, ◌*◌, ◌/◌}
 use Rattle.cgx_write_given.proofs.Sizes.{named-size}
 use Rattle.cgx_write_given.proofs.Ranges.{number_in, type-in}
@@ -11,22 +13,20 @@ use Rattle.cgx_write_given.proofs.Calling.{calls-promises}
 use Rattle.cgx_write_plans.proofs.Order.{call_fits}
 use Rattle.cgx_write_calls.proofs.named_layer.Goals as goal
 
-pub returns-then-answer-ne0 : goal.returns-then-answer-ne0
-returns-then-answer-ne0 c = let s = c in
-    let a = s.args in
-    let p = c.plan_named-answer in
-    record { buf_after = call-refused a.buf.now a.writer (given_layer a.number a.datatype (some a.name.now)) p.result p.ensures c.if-answer-ne0.true; typed = calls-promises.named-layer a.number a.datatype a.name.now (number_in a.number s.well_formed.1.1.0) (type-in a.datatype s.well_formed.1.1.1.0) (λ i. (c.shared_slice_known-1.given i).fits) }
+pub returns-in_err-after : goal.returns-in_err-after
+returns-in_err-after c = let a = c.args in
+    let p = c.plan_named in
+    let e = err_from_is_err_and c.from_residual.result c.from_residual.ensures.1 in
+    record { buf_after = rw (e.1, e.2) (call-refused a.buf.now a.writer (given_layer a.number a.datatype (Some a.name.now)) _ (sym p.ensures ∙ c.in_err-after.was)); typed = calls-promises.named-layer a.number a.datatype a.name.now (number_in a.number c.well_formed.1.1.0) (type-in a.datatype c.well_formed.1.1.1.0) (λ i. (c.shared_slice_known-1.given i).fits) }
 
 pub store_named-requires : goal.store_named-requires
-store_named-requires c = let s = c in
-    let a = s.args in
-    let p = c.plan_named-answer in
-    let h = call_fits (length a.buf.now) a.writer (given_layer a.number a.datatype (some a.name.now)) p.result (10 + length a.name.now / 2 * 2) p.ensures c.if-answer-ne0.false (named-size a.number a.datatype a.name.now) in
+store_named-requires c = let a = c.args in
+    let p = c.plan_named in
+    let h = call_fits (length a.buf.now) a.writer (given_layer a.number a.datatype (Some a.name.now)) _ (10 + length a.name.now / 2 * 2) (sym p.ensures ∙ c.in_ok-after.was) (named-size a.number a.datatype a.name.now) in
     omega (arith, h.small, h.room)
 
 pub returns : goal.returns
-returns c = let s = c in
-    let a = s.args in
-    let p = c.plan_named-answer in
+returns c = let a = c.args in
+    let p = c.plan_named in
     let o = c.store_named in
-    record { buf_after = call-taken a.buf.now a.writer (given_layer a.number a.datatype (some a.name.now)) p.result p.ensures o.new.buf c.if-answer-ne0.false o.ensures; typed = calls-promises.named-layer a.number a.datatype a.name.now (number_in a.number s.well_formed.1.1.0) (type-in a.datatype s.well_formed.1.1.1.0) (λ i. (c.shared_slice_known-1.given i).fits) }
+    record { buf_after = call-taken a.buf.now a.writer (given_layer a.number a.datatype (Some a.name.now)) _ o.new.buf (sym p.ensures ∙ c.in_ok-after.was) o.ensures; typed = calls-promises.named-layer a.number a.datatype a.name.now (number_in a.number c.well_formed.1.1.0) (type-in a.datatype c.well_formed.1.1.1.0) (λ i. (c.shared_slice_known-1.given i).fits) }

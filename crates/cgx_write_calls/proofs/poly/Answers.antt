@@ -1,4 +1,6 @@
 -- The answer is the plan's; where it is taken, the store is that of the record.
+use Rattle.std.proofs.lemmas.Result.{err_from_is_err_and}
+use mathlib.Core.Path.{sym, ◌∙◌}
 use Prim.Native.Nat.{◌+◌, ◌*◌}
 use Rattle.cgx_write_given.proofs.Sizes.{poly-size}
 use native.Mathlib.Omega.{arith}
@@ -9,22 +11,20 @@ use Rattle.cgx_write_given.proofs.Calling.{calls-promises}
 use Rattle.cgx_write_plans.proofs.Order.{call_fits}
 use Rattle.cgx_write_calls.proofs.poly.Goals as goal
 
-pub returns-then-answer-ne0 : goal.returns-then-answer-ne0
-returns-then-answer-ne0 c = let s = c in
-    let a = s.args in
-    let p = c.plan_poly-answer in
-    record { buf_after = call-refused a.buf.now a.writer (given_poly a.points.now) p.result p.ensures c.if-answer-ne0.true; typed = calls-promises.poly a.points.now c.all_longs.ensures }
+pub returns-in_err-after : goal.returns-in_err-after
+returns-in_err-after c = let a = c.args in
+    let p = c.plan_poly in
+    let e = err_from_is_err_and c.from_residual.result c.from_residual.ensures.1 in
+    record { buf_after = rw (e.1, e.2) (call-refused a.buf.now a.writer (given_poly a.points.now) _ (sym p.ensures ∙ c.in_err-after.was)); typed = calls-promises.poly a.points.now c.all_longs.ensures }
 
 pub store_poly-requires : goal.store_poly-requires
-store_poly-requires c = let s = c in
-    let a = s.args in
-    let p = c.plan_poly-answer in
-    let h = call_fits (length a.buf.now) a.writer (given_poly a.points.now) p.result (4 + 4 * length a.points.now) p.ensures c.if-answer-ne0.false (poly-size a.points.now) in
+store_poly-requires c = let a = c.args in
+    let p = c.plan_poly in
+    let h = call_fits (length a.buf.now) a.writer (given_poly a.points.now) _ (4 + 4 * length a.points.now) (sym p.ensures ∙ c.in_ok-after.was) (poly-size a.points.now) in
     omega (arith, h.small, h.room)
 
 pub returns : goal.returns
-returns c = let s = c in
-    let a = s.args in
-    let p = c.plan_poly-answer in
+returns c = let a = c.args in
+    let p = c.plan_poly in
     let o = c.store_poly in
-    record { buf_after = call-taken a.buf.now a.writer (given_poly a.points.now) p.result p.ensures o.new.buf c.if-answer-ne0.false o.ensures; typed = calls-promises.poly a.points.now c.all_longs.ensures }
+    record { buf_after = call-taken a.buf.now a.writer (given_poly a.points.now) _ o.new.buf (sym p.ensures ∙ c.in_ok-after.was) o.ensures; typed = calls-promises.poly a.points.now c.all_longs.ensures }

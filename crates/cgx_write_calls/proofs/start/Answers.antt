@@ -3,7 +3,7 @@ use Rattle.cgx_write_given.proofs.Calls.{starts, starts-not}
 use Rattle.cgx_write_calls.proofs.start.Goals as goal
 
 pub returns-then-buf-lt4 : goal.returns-then-buf-lt4
-returns-then-buf-lt4 c = starts-not c.args.buf.now c.if-buf-lt4.true
+returns-then-buf-lt4 c = rw c.nowhere.ensures (starts-not c.args.buf.now c.if-buf-lt4.true)
 
 pub returns : goal.returns
-returns c = starts c.args.buf.now c.put_bytes.new.out c.if-buf-lt4.false c.put_bytes.ensures
+returns c = rw c.start.ensures (starts c.args.buf.now c.put_bytes.new.out c.if-buf-lt4.false c.put_bytes.ensures)

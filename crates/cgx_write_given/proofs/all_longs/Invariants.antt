@@ -1,11 +1,7 @@
 -- The invariant: all are longs where those that are left are.
-use Prim.Native.Nat.{◌-◌, ◌≤◌}
-use lib.ListN.{length, drop}
+use lib.ListN.{drop}
 use Rattle.cgx_write_given.specs.Typed.{Longs}
 use Rattle.cgx_write_given.proofs.all_longs.Given as goal
 
-abbrev pub invariant-loop-i : goal.invariant-loop-i
-invariant-loop-i l = (l.i ≤ length l.zs) × (Longs (drop l.i l.zs) → Longs l.zs)
-
-abbrev pub decreases-loop-i : goal.decreases-loop-i
-decreases-loop-i l = length l.zs - l.i
+abbrev pub invariant-loop-z : goal.invariant-loop-z
+invariant-loop-z l = Longs (drop l.z-index l.zs) → Longs l.zs

@@ -1,17 +1,16 @@
 -- The TEXT is planned from the writer after the two records.
-use mathlib.Core.Path.{◌∙◌}
+use Rattle.std.proofs.lemmas.Result.{err_from_is_err_and}
+use mathlib.Core.Path.{sym, ◌∙◌}
 use mathlib.Core.List.{[], ◌∷◌}
 use Rattle.cgx_write_makers.specs.Makers.{outline, caption}
 use Rattle.cgx_write_makers.proofs.Turns.{plan-last, more-stops, more-goes}
 use Rattle.cgx_write_makers.proofs.plan_frame.Goals as goal
 
-pub returns-then-planned-ne0 : goal.returns-then-planned-ne0
-returns-then-planned-ne0 c = let a = c.args in
-    let p = c.plan_outline-planned in
-    more-stops a.room (caption a.at a.label.now ∷ []) (outline a.points.now) a.w p.result p.ensures c.if-planned-ne0.true
+pub returns-in_err-next : goal.returns-in_err-next
+returns-in_err-next c = let a = c.args in
+    let e = err_from_is_err_and c.from_residual.result c.from_residual.ensures.1 in
+    rw (e.1, e.2) (more-stops a.room (caption a.at a.label.now ∷ []) (outline a.points.now) a.w _ (sym c.plan_outline.ensures ∙ c.in_err-next.was))
 
 pub returns : goal.returns
 returns c = let a = c.args in
-    let p = c.plan_outline-planned in
-    let v = c.plan_text in
-    more-goes a.room (caption a.at a.label.now ∷ []) (outline a.points.now) a.w p.result p.ensures v.result c.if-planned-ne0.false (v.ensures ∙ plan-last a.room p.result.writer (caption a.at a.label.now))
+    more-goes a.room (caption a.at a.label.now ∷ []) (outline a.points.now) a.w _ c.plan_text.result (sym c.plan_outline.ensures ∙ c.in_ok-next.was) (c.plan_text.ensures ∙ plan-last a.room _ (caption a.at a.label.now))

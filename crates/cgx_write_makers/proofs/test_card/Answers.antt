@@ -1,40 +1,36 @@
 -- The plan and the stores are those of the two records in turn.
+use Rattle.std.proofs.lemmas.Result.{err_from_is_err_and}
 use mathlib.Core.Path.{sym, ap, ◌∙◌}
 use mathlib.Core.List.{List, []}
 use native.Mathlib.Omega.{arith}
 use lib.IntN.{ℤ}
 use lib.ListN.{length}
-use Rattle.cgx_write_given.specs.declared.Answer.{Answer}
-use Rattle.cgx_write_makers.specs.Makers.{outline, handed_back, all_in}
+use Rattle.cgx_write_given.specs.Writing.{is_taken}
+use Rattle.cgx_write_makers.specs.Makers.{outline, all_in}
 use Rattle.cgx_write_makers.proofs.Turns.{all-refused, all-taken}
 use Rattle.cgx_write_makers.proofs.Outline.{outline-stored, outline-fits, corners-held}
 use Rattle.cgx_write_makers.proofs.Demand.{card-typed}
 use Rattle.cgx_write_makers.proofs.test_card.Goals as goal
 
-pub returns-then-answer-ne0 : goal.returns-then-answer-ne0
-returns-then-answer-ne0 c = let s = c in
-    let a = s.args in
+pub returns-in_err-after : goal.returns-in_err-after
+returns-in_err-after c = let a = c.args in
     let zs = c.corners_of-corners.result in
-    let h = c.handed_back-answer in
-    let e = h.ensures ∙ ap (handed_back a.writer) c.plan_outline-planned.ensures in
-    let q = ap (λ (x : List ℤ). all_in a.buf.now a.writer (outline x)) (c.corners_of-corners.ensures ∙ corners-held a.left a.bottom a.right a.top s.ranges.left s.ranges.bottom s.ranges.right s.ranges.top) in
-    record { buf_after = all-refused a.buf.now a.writer (outline zs) h.result e c.if-answer-ne0.true ∙ q; typed = card-typed a.left a.bottom a.right a.top s.ranges.left s.ranges.bottom s.ranges.right s.ranges.top }
+    let p = sym c.plan_outline.ensures in
+    let q = ap (λ (x : List ℤ). all_in a.buf.now a.writer (outline x)) (c.corners_of-corners.ensures ∙ corners-held a.left a.bottom a.right a.top c.ranges.left c.ranges.bottom c.ranges.right c.ranges.top) in
+    let e = err_from_is_err_and c.from_residual.result c.from_residual.ensures.1 in
+    record { buf_after = rw (e.1, e.2) (all-refused a.buf.now a.writer (outline zs) _ (p ∙ c.in_err-after.was) ∙ q); typed = card-typed a.left a.bottom a.right a.top c.ranges.left c.ranges.bottom c.ranges.right c.ranges.top }
 
 pub store_outline-requires : goal.store_outline-requires
-store_outline-requires c = let s = c in
-    let a = s.args in
+store_outline-requires c = let a = c.args in
     let zs = c.corners_of-corners.result in
-    let h = c.handed_back-answer in
-    let e = h.ensures ∙ ap (handed_back a.writer) c.plan_outline-planned.ensures in
-    let f = outline-fits zs a.writer (length a.buf.now) [] (sym (ap (λ (x : Answer). x.number) e) ∙ c.if-answer-ne0.false) in
+    let p = sym c.plan_outline.ensures in
+    let f = outline-fits zs a.writer (length a.buf.now) [] (ap is_taken (p ∙ c.in_ok-after.was)) in
     omega (arith, f.0, f.1)
 
 pub returns : goal.returns
-returns c = let s = c in
-    let a = s.args in
+returns c = let a = c.args in
     let zs = c.corners_of-corners.result in
-    let h = c.handed_back-answer in
-    let e = h.ensures ∙ ap (handed_back a.writer) c.plan_outline-planned.ensures in
-    let q = ap (λ (x : List ℤ). all_in a.buf.now a.writer (outline x)) (c.corners_of-corners.ensures ∙ corners-held a.left a.bottom a.right a.top s.ranges.left s.ranges.bottom s.ranges.right s.ranges.top) in
+    let p = sym c.plan_outline.ensures in
+    let q = ap (λ (x : List ℤ). all_in a.buf.now a.writer (outline x)) (c.corners_of-corners.ensures ∙ corners-held a.left a.bottom a.right a.top c.ranges.left c.ranges.bottom c.ranges.right c.ranges.top) in
     let o = c.store_outline in
-    record { buf_after = all-taken a.buf.now a.writer (outline zs) h.result e o.new.buf c.if-answer-ne0.false (o.ensures.1 ∙ outline-stored zs a.writer a.buf.now) ∙ q; typed = card-typed a.left a.bottom a.right a.top s.ranges.left s.ranges.bottom s.ranges.right s.ranges.top }
+    record { buf_after = all-taken a.buf.now a.writer (outline zs) _ o.new.buf (p ∙ c.in_ok-after.was) (o.ensures.1 ∙ outline-stored zs a.writer a.buf.now) ∙ q; typed = card-typed a.left a.bottom a.right a.top c.ranges.left c.ranges.bottom c.ranges.right c.ranges.top }

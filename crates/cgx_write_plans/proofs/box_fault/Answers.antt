@@ -11,9 +11,7 @@ pub returns-then-sides : goal.returns-then-sides
 returns-then-sides c = box-few c.args.sides.now c.if-sides.true
 
 pub returns-then-boxes_good : goal.returns-then-boxes_good
-returns-then-boxes_good c = let s = c in
-    box-is s.args.sides.now true s.if-sides-ne0.false c.if-sides.false (sym c.boxes_good.ensures ∙ c.if-boxes_good.true)
+returns-then-boxes_good c = box-is c.args.sides.now true c.if-sides-ne0.false c.if-sides.false (sym c.boxes_good.ensures ∙ c.if-boxes_good.true)
 
 pub returns-else-boxes_good : goal.returns-else-boxes_good
-returns-else-boxes_good c = let s = c in
-    box-is s.args.sides.now false s.if-sides-ne0.false c.if-sides.false (sym c.boxes_good.ensures ∙ c.if-boxes_good.false)
+returns-else-boxes_good c = box-is c.args.sides.now false c.if-sides-ne0.false c.if-sides.false (sym c.boxes_good.ensures ∙ c.if-boxes_good.false)

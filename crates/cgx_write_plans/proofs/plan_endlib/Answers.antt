@@ -8,4 +8,4 @@ use Rattle.cgx_write_plans.proofs.plan_endlib.Goals as goal
 pub returns : goal.returns
 unfolding given_endlib
 returns c = let a = c.args in
-    plan-is a.room a.w given_endlib c.conclude.result 0 4 c.conclude.ensures endlib-fault endlib-size
+    plan-is a.room a.w given_endlib c.conclude.result _ 4 c.conclude.ensures endlib-fault endlib-size

@@ -9,4 +9,4 @@ use Rattle.cgx_write_plans.proofs.plan_sref.Goals as goal
 pub returns : goal.returns
 unfolding given_sref
 returns c = let a = c.args in
-    plan-is a.room a.w (given_sref a.flags a.at a.angle.now a.magnif.now a.grid a.name.now) c.conclude.result c.sref_fault.result c.sref_size.result c.conclude.ensures (c.sref_fault.ensures ∙ sref-fault a.at a.angle.now a.magnif.now a.grid a.name.now a.flags) (c.sref_size.ensures ∙ sref-size a.flags a.at a.angle.now a.magnif.now a.grid a.name.now)
+    plan-is a.room a.w (given_sref a.flags a.at a.angle.now a.magnif.now a.grid a.name.now) c.conclude.result _ c.sref_size.result c.conclude.ensures (c.sref_fault.ensures ∙ sref-fault a.at a.angle.now a.magnif.now a.grid a.name.now a.flags) (c.sref_size.ensures ∙ sref-size a.flags a.at a.angle.now a.magnif.now a.grid a.name.now)

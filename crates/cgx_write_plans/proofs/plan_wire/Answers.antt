@@ -9,4 +9,4 @@ use Rattle.cgx_write_plans.proofs.plan_wire.Goals as goal
 pub returns : goal.returns
 unfolding given_wire
 returns c = let a = c.args in
-    plan-is a.room a.w (given_wire a.style a.width a.points.now) c.conclude.result c.wire_fault.result c.wire_size.result c.conclude.ensures (c.wire_fault.ensures ∙ wire-fault a.style a.width a.points.now) (c.wire_size.ensures ∙ wire-size a.style a.width a.points.now)
+    plan-is a.room a.w (given_wire a.style a.width a.points.now) c.conclude.result _ c.wire_size.result c.conclude.ensures (c.wire_fault.ensures ∙ wire-fault a.style a.width a.points.now) (c.wire_size.ensures ∙ wire-size a.style a.width a.points.now)

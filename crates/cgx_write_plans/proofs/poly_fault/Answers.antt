@@ -11,9 +11,7 @@ pub returns-then-points : goal.returns-then-points
 returns-then-points c = poly-few c.args.points.now c.if-points-ne0.false c.if-points.true
 
 pub returns-then-is_closed : goal.returns-then-is_closed
-returns-then-is_closed c = let s = c in
-    poly-is s.args.points.now true s.if-points-ne0.false c.if-points.false (sym c.is_closed.ensures ∙ c.if-is_closed.true)
+returns-then-is_closed c = poly-is c.args.points.now true c.if-points-ne0.false c.if-points.false (sym c.is_closed.ensures ∙ c.if-is_closed.true)
 
 pub returns-else-is_closed : goal.returns-else-is_closed
-returns-else-is_closed c = let s = c in
-    poly-is s.args.points.now false s.if-points-ne0.false c.if-points.false (sym c.is_closed.ensures ∙ c.if-is_closed.false)
+returns-else-is_closed c = poly-is c.args.points.now false c.if-points-ne0.false c.if-points.false (sym c.is_closed.ensures ∙ c.if-is_closed.false)

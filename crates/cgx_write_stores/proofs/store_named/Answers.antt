@@ -1,7 +1,7 @@
 -- The header, the two numbers and the name, one after the other, are the bytes of the record.
+use Rattle.std.specs.Prelude.{Some}
 use mathlib.Core.Path.{◌∙◌}
 use mathlib.Core.List.{◌++◌}
-use mathlib.Core.Option.{some}
 use Prim.Native.Nat.{◌+◌}
 use native.Mathlib.Omega.{arith}
 use Rattle.cgx_spec.specs.Numbers.{short_bytes}
@@ -21,4 +21,4 @@ unfolding given_layer stored
 returns c = let a = c.args in
     onto (a.at + 8) (padded a.name.now) c.put_text.ensures
     (onto (a.at + 4) (short_bytes a.number.0 ++ short_bytes a.datatype.0) c.put_layer_numbers.ensures c.put_header.ensures ∙ two-shorts _ a.at a.number.0 a.datatype.0)
-    ∙ record-put (given_layer a.number a.datatype (some a.name.now)) a.buf.now a.at c.named_size.result (c.named_size.ensures ∙ named-size a.number a.datatype a.name.now)
+    ∙ record-put (given_layer a.number a.datatype (Some a.name.now)) a.buf.now a.at c.named_size.result (c.named_size.ensures ∙ named-size a.number a.datatype a.name.now)

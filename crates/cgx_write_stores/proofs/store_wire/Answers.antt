@@ -19,6 +19,6 @@ pub returns : goal.returns
 unfolding given_wire stored longs_bytes long_bytes
 returns c = let a = c.args in
     let s = c.wire_size.result in
-    let h = c.put_header.ensures ∙ ap (λ (f : ℕ). put a.buf.now a.at (s / 256 ∷ s % 256 ∷ type_for Wire ∷ flags_of Wire f ∷ [])) c.flags.ensures in
+    let h = c.put_header.ensures ∙ ap (λ (f : ℕ). put a.buf.now a.at (s / 256 ∷ s % 256 ∷ type_for Wire ∷ flags_of Wire f ∷ [])) c.style_flags.ensures in
     onto (a.at + 8) (longs_bytes a.points.now) c.put_longs.ensures (onto (a.at + 4) (long_bytes a.width) (c.put_long.ensures ∙ ap (λ (z : ℤ). put c.put_header.new.buf (a.at + 4) (long_bytes z)) (to_z-of_z w32 a.width c.ranges.width)) h)
     ∙ record-put (given_wire a.style a.width a.points.now) a.buf.now a.at c.wire_size.result (c.wire_size.ensures ∙ wire-size a.style a.width a.points.now)

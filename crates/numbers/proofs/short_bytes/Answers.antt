@@ -1,11 +1,10 @@
 -- `numbers::short_bytes` is right: the bytes are the digits of the number's bits. Assumes nothing.
 use mathlib.Core.Path.{ap, ◌∙◌}
-use Prim.Native.Nat.{◌^◌}
 use mir.Syntax.{w16}
-use Rattle.cgx_spec.specs.Numbers.{digits, untwos, short_bytes}
-use Rattle.numbers.proofs.Signed.{back}
+use Rattle.cgx_spec.specs.Numbers.{digits, short_bytes}
+use Rattle.numbers.proofs.Signed.{unsigned_is}
 use Rattle.numbers.proofs.short_bytes.Goals as goal
 
 pub returns : goal.returns
 unfolding short_bytes
-returns c = ap (digits 2) (c.short_bits-w.ensures ∙ ap (untwos (2 ^ 15)) (back w16 c.ranges.n.sfits))
+returns c = c.to_be_bytes.ensures ∙ ap (digits 2) (unsigned_is w16 c.args.n c.ranges.n.sfits)

@@ -9,7 +9,7 @@ use lib.Ieee.{fin, of_bits}
 use Rattle.cgx_spec.specs.declared.Real.TheVariants.{Inexact}
 use Rattle.cgx_spec.specs.Reals.{mantissa, exponent}
 use Rattle.cgx_spec.proofs.RealLaws.{negative-no, negative-yes, negative-leb}
-use Rattle.cgx_spec.proofs.DoubleLaws.{tz-lt, tz-pos, exact-zero, exact-not, double-zero, answer-exact, answer-inexact, answer-plus, answer-minus}
+use Rattle.cgx_spec.proofs.DoubleLaws.{tz-pos, exact-zero, exact-not, double-zero, answer-exact, answer-inexact, answer-plus, answer-minus}
 use Rattle.reals.proofs.real_of.Goals as goal
 
 pub returns-then-m-eq0 : goal.returns-then-m-eq0
@@ -17,24 +17,10 @@ unfolding mantissa of_bits
 returns-then-m-eq0 c = let w = c.args.w in
     sym (answer-exact w (fin false 0 (pos 0)) (exact-zero w c.if-m-eq0.true) (double-zero w c.if-m-eq0.true))
 
-pub overflow_cast-q : goal.overflow_cast-q
-overflow_cast-q c = omega (arith, trailing_le 64 (c.args.w % 2 ^ 56))
-
-pub overflow_shr-q : goal.overflow_shr-q
-overflow_shr-q c = let m = c.args.w % 2 ^ 56 in
-    let z : m ≡ 0 → ⊥ = c.if-m-eq0.false in
-    tz-lt 64 m (omega arith) (omega arith)
-
 pub returns-then-q-ge9007199254740992 : goal.returns-then-q-ge9007199254740992
 unfolding mantissa exponent
 returns-then-q-ge9007199254740992 c = let w = c.args.w in
     sym (answer-inexact w (exact-not w (omega arith)) ∙ ap (λ (s : Bool). Inexact s (exponent w) (mantissa w)) (negative-leb w c.ranges.w.fits))
-
-pub overflow_cast-t : goal.overflow_cast-t
-overflow_cast-t c = omega (arith, trailing_le 64 (c.args.w % 2 ^ 56))
-
-pub overflow_add-e : goal.overflow_add-e
-overflow_add-e c = omega (arith, trailing_le 64 (c.args.w % 2 ^ 56))
 
 pub scaled-y-requires : goal.scaled-y-requires
 scaled-y-requires c = let m = c.args.w % 2 ^ 56 in

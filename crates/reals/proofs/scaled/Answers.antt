@@ -7,15 +7,12 @@ use native.Mathlib.Omega.{arith}
 use lib.Dec.{T}
 use lib.Ieee.{binary64, nan_bits}
 use lib.Ieee.Bits.{nan_bits_above}
-use Rattle.cgx_spec.proofs.DoubleLaws.{cast-exact, scaled-is}
+use Rattle.cgx_spec.proofs.DoubleLaws.{scaled-is}
 use Rattle.reals.proofs.scaled.Goals as goal
 
 -- a pattern at most that of infinity is no NaN's
 no_nan : (n : ℕ) → n % 2 ^ 63 ≤ 2047 * 2 ^ 52 → T (not (nan_bits binary64 n))
 no_nan n h = subst (λ (b : Bool). T (not b)) (sym (nan_bits_above binary64 n ∙ le-ltb (2047 * 2 ^ 52) (n % 2 ^ 63) h)) tt
-
-pub int_to_float-result : goal.int_to_float-result
-int_to_float-result c = cast-exact c.args.q c.requires.1
 
 pub float_from_bits-result : goal.float_from_bits-result
 float_from_bits-result c = no_nan _ (omega arith)

@@ -1,6 +1,6 @@
 -- What the call answers, as C is told it.
 use mathlib.Core.Path.{ap, ◌∙◌}
-use Rattle.cgx_spec.specs.declared.Verdict.{Verdict}
+use Rattle.cgx_spec.specs.Verdicts.{Verdict}
 use Rattle.cgx_c_answers.specs.Told.{verdict_told}
 use Rattle.cgx_c.proofs.reading.cgx_check.Goals as goal
 

@@ -1,9 +1,0 @@
--- By cases.
-use mathlib.Core.Path.{refl}
-use Rattle.cgx_c_answers.proofs.tell_length.Goals as goal
-
-pub returns-in-Accepted : goal.returns-in-Accepted
-returns-in-Accepted c = rw c.in-Accepted.is refl
-
-pub returns-in-Refused : goal.returns-in-Refused
-returns-in-Refused c = rw c.in-Refused.is refl

@@ -1,6 +1,0 @@
--- Term by term.
-use mathlib.Core.Path.{refl}
-use Rattle.cgx_c_views.proofs.pair_word.Goals as goal
-
-pub returns : goal.returns
-returns c = refl

@@ -1,8 +1,0 @@
--- The cursor after the record.
-use Prim.Native.Nat.{◌+◌}
-use Rattle.cgx_write_given.specs.Writing.{offset_of}
-use Rattle.cgx_write_plans.proofs.moved.Goals as goal
-
-pub returns : goal.returns
-returns c = let a = c.args in
-    λ i. record { cursor = record { at = offset_of a.w + a.size; state = c.next_state-state.ensures i } }
