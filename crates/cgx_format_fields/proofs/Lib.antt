@@ -1,3 +1,4 @@
 pub mod Strings
 pub mod Chunks
 pub mod Boxes
+pub mod Pieces

@@ -1,7 +1,7 @@
 // The rules 9 to 12 of a record's fields, each on the bytes of the field.
 #![tactic(auto)]
 
-ghost use Rattle.std.specs.Prelude.{◌≡◌, ◌+◌, ◌%◌, ◌≤◌, length, take, drop};
+ghost use Rattle.std.specs.Prelude.{◌≡◌, true, not, ◌&&◌, ◌+◌, ◌%◌, ◌≤◌, eqb, length, take, drop, fold};
 ghost use Rattle.std.specs.Int.Signed.{le_z};
 ghost use Rattle.cgx_spec.specs.Numbers.{long_of, longs_of};
 ghost use Rattle.cgx_spec.specs.Dates.{good_date};
@@ -80,11 +80,39 @@ pub fn optional_good(b: &[u8]) -> bool
     b.is_empty() || string_good(b)
 }
 
-// `contains` takes several bytes at a time, by the length of b, and has no early exit but between these.
+// A long text goes by pieces, the last of which ends where b ends and may overlap the one before it; a short one by `contains`, which takes several bytes at a time by
+// their length.
 pub fn no_zero(b: &[u8]) -> bool
     ensures { result ≡ no_zero b.now }
 {
-    !b.contains(&0)
+    let n = b.len();
+    if n < 512 {
+        return !b.contains(&0);
+    }
+    none_in_pieces(b[..n - 1].as_chunks().0) && none_in_pieces(b[n - 512..].as_chunks().0)
+}
+
+// A zero ends the search between pieces.
+fn none_in_pieces(pieces: &[[u8; 512]]) -> bool
+    ensures { result ≡ fold (λ none b. none && no_zero b) true pieces.now }
+{
+    for piece in pieces {
+        if lowest(piece) == 0 {
+            return false;
+        }
+    }
+    true
+}
+
+// The lowest byte of a long piece takes less than a test of each byte, as `contains` makes it: half as many instructions.
+fn lowest(piece: &[u8; 512]) -> u8
+    ensures { not (eqb result 0) ≡ no_zero piece.now }
+{
+    let mut low: u8 = 255;
+    for b in piece {
+        low = low.min(*b);
+    }
+    low
 }
 
 // ---- 12: the last point is the first
