@@ -62,19 +62,24 @@ const WIDTH: i32 = 2;
 const STYLE: u8 = 0;
 
 // ---- the plans: what the last record answers, or the first that is refused
+// A match and no `?`, which at -Oz copies an answer through memory once more: of all calls the caption frame has the deepest stack (docs/TARGETS.md).
 
 fn plan_outline(room: usize, w: Writer, points: &[i32]) -> Answer
     ensures { result ≡ all_planned room w (outline points.now) }
 {
-    let next = plan_layer(room, w, LayerNo(1), DataType(0))?;
-    plan_wire(room, next, Some(STYLE), WIDTH, points)
+    match plan_layer(room, w, LayerNo(1), DataType(0)) {
+        Ok(next) => plan_wire(room, next, Some(STYLE), WIDTH, points),
+        Err(refusal) => Err(refusal),
+    }
 }
 
 fn plan_frame(room: usize, w: Writer, points: &[i32], at: Point, label: &[u8]) -> Answer
     ensures { result ≡ all_planned room w (outline points.now ++ (caption at label.now ∷ [])) }
 {
-    let next = plan_outline(room, w, points)?;
-    plan_text(room, next, 0, at, WIDTH, label)
+    match plan_outline(room, w, points) {
+        Ok(next) => plan_text(room, next, 0, at, WIDTH, label),
+        Err(refusal) => Err(refusal),
+    }
 }
 
 // ---- the two records that both makers append

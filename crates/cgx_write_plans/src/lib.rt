@@ -141,6 +141,8 @@ pub fn plan_endlib(room: usize, w: Writer) -> Answer
 
 // ---- the answer to a record of a kind and a size: `fault` is the first of the rules 7 to 12 that it breaks, if any
 
+// Compiled into each plan, as `owned` and `wire` of `cgx_write_calls` are into their callers.
+#[inline]
 fn conclude(room: usize, w: Writer, k: Kind, fault: Result<(), Fault>, size: usize) -> Answer
     ensures { result ≡ concluded room w k (numbered fault) size }
 {
