@@ -62,8 +62,10 @@ const WIDTH: i32 = 2;
 const STYLE: u8 = 0;
 
 // ---- the plans: what the last record answers, or the first that is refused
-// A match and no `?`, which at -Oz copies an answer through memory once more: of all calls the caption frame has the deepest stack (docs/TARGETS.md).
+// A match and no `?`, which at -Oz copies an answer through memory once more: the caption frame has the deepest stack of all calls there (docs/TARGETS.md). At -O2 they
+// are compiled into the makers.
 
+#[inline]
 fn plan_outline(room: usize, w: Writer, points: &[i32]) -> Answer
     ensures { result ≡ all_planned room w (outline points.now) }
 {
@@ -73,6 +75,7 @@ fn plan_outline(room: usize, w: Writer, points: &[i32]) -> Answer
     }
 }
 
+#[inline]
 fn plan_frame(room: usize, w: Writer, points: &[i32], at: Point, label: &[u8]) -> Answer
     ensures { result ≡ all_planned room w (outline points.now ++ (caption at label.now ∷ [])) }
 {
