@@ -104,7 +104,8 @@ pub fn property(buf: &mut [u8], writer: Writer, number: i32, value: &[u8]) -> An
     owned(buf, writer, Owner::Object, number, value)
 }
 
-// Appends a CPRPTY or a PROPERTY. Compiled into both: as a call of its own, whose answer goes through memory, a short one took 2.3 times as long on x86-64.
+// Appends a CPRPTY or a PROPERTY. By the hint it is compiled into both, but at -Oz: as a call of its own, whose answer goes through memory, a short one took 2.3 times as
+// long on x86-64.
 #[inline]
 fn owned(buf: &mut [u8], writer: Writer, owner: Owner, number: i32, value: &[u8]) -> Answer
     ensures { record { answer = result; buffer = buf.new } ≡ call_in buf.old writer (given_owned owner number value.now) }

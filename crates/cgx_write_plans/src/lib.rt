@@ -141,7 +141,7 @@ pub fn plan_endlib(room: usize, w: Writer) -> Answer
 
 // ---- the answer to a record of a kind and a size: `fault` is the first of the rules 7 to 12 that it breaks, if any
 
-// Compiled into each plan, as `owned` and `wire` of `cgx_write_calls` are into their callers.
+// By the hint it is compiled into the plans, but at -Oz, where hints do nothing.
 #[inline]
 fn conclude(room: usize, w: Writer, k: Kind, fault: Result<(), Fault>, size: usize) -> Answer
     ensures { result ≡ concluded room w k (numbered fault) size }
